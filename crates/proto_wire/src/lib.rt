@@ -1,0 +1,13 @@
+//! The bytes of the wire: byte strings, texts and lists, and the records of the Protocol Buffers encoding.
+#![tactic(auto)]
+
+mod bytes;
+mod compared;
+mod list;
+mod memory;
+mod text;
+
+pub use bytes::Bytes;
+pub use list::List;
+pub use memory::{Mem, OutOfMemory, Same, TryClone};
+pub use text::Text;
