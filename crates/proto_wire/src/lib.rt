@@ -3,11 +3,13 @@
 
 mod bytes;
 mod compared;
+mod fault;
 mod list;
 mod memory;
 mod text;
 
 pub use bytes::Bytes;
+pub use fault::{DecodeFault, WireFault, WireKind};
 pub use list::List;
 pub use memory::{Mem, OutOfMemory, Same, TryClone};
 pub use text::Text;

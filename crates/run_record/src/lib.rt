@@ -1,0 +1,8 @@
+//! The run record, and what it means: the plain sequential machine.
+#![tactic(auto)]
+
+mod entry;
+mod module;
+
+pub use entry::{Entry, Reply, Step};
+pub use module::{Endpoint, IngressSpec, Module, TypePattern};

@@ -1,0 +1,3 @@
+pub mod Told
+pub mod Splits
+pub mod Answers

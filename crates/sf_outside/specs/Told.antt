@@ -1,0 +1,19 @@
+-- What an object tells of itself, and when it may say that it failed.
+use Rattle.std.specs.Prelude.{◌≡◌, ℕ, ◌+◌, ◌-◌, ◌^◌, ◌≤◌, min, List, ◌++◌, Option, Some, None, Result, Ok, Err}
+use Rattle.sf_outside.specs.declared.fault.Fault.{Fault}
+use Rattle.sf_outside.specs.declared.fault.Fault.TheVariants.{Failed, OutOfMemory}
+
+-- what is told, and these behind it; what is not told stays so
+abbrev pub more : {A : Type 0} → Option (List A) → List A → Option (List A)
+more None xs = None
+more (Some told) xs = Some (told ++ xs)
+
+-- a count of faults rose, or stands at its last value
+abbrev pub Rose : ℕ → ℕ → Type 0
+Rose before now = min (before + 1) (2 ^ 64 - 1) ≤ now
+
+-- Failed comes only where the count rose; with any other answer it stands
+abbrev pub HasCause : {T : Type 0} → ℕ → ℕ → Result T Fault → Type 0
+HasCause before now (Err Failed) = (before ≤ now) × Rose before now
+HasCause before now (Err OutOfMemory) = now ≡ before
+HasCause before now (Ok x) = now ≡ before
