@@ -3,6 +3,7 @@
 
 mod answer;
 mod flaw;
+mod judging;
 mod request;
 
 pub use answer::{
@@ -10,4 +11,5 @@ pub use answer::{
     InvocationResponse, OutgoingInvocation, PersistedValueMutation, PersistedValueSpec,
 };
 pub use flaw::{Flaw, FlawKind, Reason};
+pub use judging::{Judged, encode_to, judge};
 pub use request::{BatchInvocation, InvocationBatchRequest, PersistedValue, ToFunction};
