@@ -2,5 +2,6 @@
 #![tactic(auto)]
 
 mod end;
+mod polling;
 
 pub use end::{PlainEnd, PlainRun};
