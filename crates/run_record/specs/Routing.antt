@@ -1,5 +1,5 @@
 -- Where things go in a job.
-use Rattle.std.specs.Prelude.{◌≡◌, ℕ, ◌+◌, ◌-◌, nat_eq, nat_lt, nat_le, codes, zero, suc, List, [], ◌∷◌, ◌++◌, Bool, true, false, not, ◌&&◌, if◌then◌else◌, Option, Some, None, is_some, map, find, option_and_then}
+use Rattle.std.specs.Prelude.{ℕ, ◌+◌, ◌-◌, nat_eq, nat_lt, nat_le, codes, zero, suc, List, [], ◌∷◌, ◌++◌, Bool, true, false, not, ◌&&◌, if◌then◌else◌, Option, Some, None, is_some, map, find}
 use Rattle.std.specs.Option.{option_map, option_map_or}
 use Rattle.std.specs.List.{starts_with, list_any, list_all}
 use Rattle.typed_values.specs.declared.name.TypeName.{TypeName}

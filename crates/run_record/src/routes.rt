@@ -136,7 +136,7 @@ fn filled(alloc: Global, template: &str, name: &str) -> Mem<Text>
 {
     let mut made = Text::new(alloc);
     let mut rest = template;
-    while let Some((before, after)) = rest.split_once("{function.name}") {
+    'parts: while let Some((before, after)) = rest.split_once("{function.name}") {
         made.append(before)?;
         made.append(name)?;
         rest = after;
