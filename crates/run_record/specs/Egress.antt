@@ -1,5 +1,5 @@
 -- What a record gave to the egresses, and the text of it.
-use Rattle.std.specs.Prelude.{ℕ, ◌+◌, ◌/◌, ◌%◌, nat_lt, nat_le, List, [], ◌∷◌, ◌++◌, ◌||◌, ◌==◌, map, codes, if◌then◌else◌}
+use Rattle.std.specs.Prelude.{ℕ, ◌+◌, ◌/◌, ◌%◌, nat_lt, List, [], ◌∷◌, ◌++◌, ◌||◌, ◌==◌, map, codes, if◌then◌else◌}
 use Rattle.std.specs.List.{flat_map}
 use Rattle.typed_values.specs.declared.name.TypeName.{TypeName}
 use Rattle.typed_values.specs.declared.address.Address.{Address}

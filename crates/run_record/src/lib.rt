@@ -3,6 +3,8 @@
 
 mod entry;
 mod module;
+mod routes;
 
 pub use entry::{Entry, Reply, Step};
 pub use module::{Endpoint, IngressSpec, Module, TypePattern};
+pub use routes::Routes;
