@@ -2,3 +2,4 @@ pub mod Routing
 pub mod Machine
 pub mod Backed
 pub mod Egress
+pub mod Laws
