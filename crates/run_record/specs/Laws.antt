@@ -45,11 +45,11 @@ pub record IsServed (m : Module) (reply : Reply) (st next : State) : Type 0 wher
   pub accepted : verdict m.egresses reply.answer ≡ Accept response
   pub leaves : next ≡ served reply response st
 
-some_from_and_then : {A B : Type 0} (f : A → Option B) (o : Option A) (y : B) → option_and_then f o ≡ Some y → (x : A) × (o ≡ Some x) × (f x ≡ Some y)
+pub some_from_and_then : {A B : Type 0} (f : A → Option B) (o : Option A) (y : B) → option_and_then f o ≡ Some y → (x : A) × (o ≡ Some x) × (f x ≡ Some y)
 some_from_and_then f None y h = absurd cc
 some_from_and_then f (Some x) y h = (x, refl, h)
 
-some_from_map : {A B : Type 0} (f : A → B) (o : Option A) (y : B) → option_map f o ≡ Some y → (x : A) × (o ≡ Some x) × (y ≡ f x)
+pub some_from_map : {A B : Type 0} (f : A → B) (o : Option A) (y : B) → option_map f o ≡ Some y → (x : A) × (o ≡ Some x) × (y ≡ f x)
 some_from_map f None y h = absurd cc
 some_from_map f (Some x) y h = (x, refl, cc)
 

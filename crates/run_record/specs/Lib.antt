@@ -3,3 +3,4 @@ pub mod Machine
 pub mod Backed
 pub mod Egress
 pub mod Laws
+pub mod LawsOfEgress
