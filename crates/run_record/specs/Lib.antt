@@ -2,3 +2,5 @@ pub mod Routing
 pub mod Machine
 pub mod Backed
 pub mod Egress
+pub mod Laws
+pub mod LawsOfEgress
