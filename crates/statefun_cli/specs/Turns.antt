@@ -8,6 +8,7 @@ use Rattle.sf_outside.specs.declared.call.LinkEvent.{LinkEvent}
 use Rattle.sf_outside.specs.declared.call.LinkEvent.TheVariants.{Started, Polled}
 use Rattle.sf_outside.specs.declared.ingress.IngressRecord.{IngressRecord}
 use Rattle.typed_values.specs.declared.letter.Sender.{Sender}
+use Rattle.typed_values.specs.declared.address.Address.{Address}
 use Rattle.typed_values.specs.declared.letter.Letter.{Letter}
 use Rattle.request_reply.specs.declared.request.ToFunction.{ToFunction}
 use Rattle.request_reply.specs.declared.flaw.Flaw.{Flaw as FlawOf}
@@ -122,12 +123,12 @@ abbrev pub batch_stamp : Option IngressRecord → ℕ
 batch_stamp None = 1
 batch_stamp (Some taken) = 2
 
-abbrev pub batch_entry : ℕ → Option IngressRecord → Letter → List ℕ → Entry
-batch_entry turn read letter answer = record {
+abbrev pub batch_entry : ℕ → Option IngressRecord → Sender → Address → List ℕ → Entry
+batch_entry turn read sender target answer = record {
   leg = turn;
   stamp = batch_stamp read;
   node = 1;
-  step = Batch (record { call = call_in turn; address = letter.target; moment = 0; picks = letter.sender ∷ []; answer = answer });
+  step = Batch (record { call = call_in turn; address = target; moment = 0; picks = sender ∷ []; answer = answer });
 }
 
 -- the run is done where the read found nothing and no letter is left
@@ -136,34 +137,34 @@ status_at (Some taken) work = Going
 status_at None work = if nat_eq (length work.waiting) 0 then Ended (Done work.taken) else Going
 
 -- the letter was served: it leaves, and its batch is recorded
-abbrev pub work_served : ℕ → Option IngressRecord → Letter → List Letter → List ℕ → Work → Work
-work_served turn read letter others answer work = record {
+abbrev pub work_served : ℕ → Option IngressRecord → Sender → Address → List Letter → List ℕ → Work → Work
+work_served turn read sender target others answer work = record {
   taken = work.taken;
   waiting = others;
-  entries = work.entries ++ batch_entry turn read letter answer ∷ [];
+  entries = work.entries ++ batch_entry turn read sender target answer ∷ [];
 }
 
-abbrev pub failed : Letter → Reason → Status
-failed letter reason = Ended (EndpointFailed letter.target (reason ∷ []))
+abbrev pub failed : Address → Reason → Status
+failed target reason = Ended (EndpointFailed target (reason ∷ []))
 
-abbrev pub judged_turn : ℕ → Option IngressRecord → Letter → List Letter → List ℕ → Work → List LinkEvent → Judged → Turned
-judged_turn turn read letter others answer work events (Accept response) =
-    let served = work_served turn read letter others answer work in
+abbrev pub judged_turn : ℕ → Option IngressRecord → Sender → Address → List Letter → List ℕ → Work → List LinkEvent → Judged → Turned
+judged_turn turn read sender target others answer work events (Accept response) =
+    let served = work_served turn read sender target others answer work in
     record { work = served; events = events; status = status_at read served }
-judged_turn turn read letter others answer work events (Flaw flaw) = record { work = work; events = events; status = failed letter (Refused answer flaw) }
+judged_turn turn read sender target others answer work events (Flaw flaw) = record { work = work; events = events; status = failed target (Refused answer flaw) }
 
-abbrev pub fated_turn : Module → ℕ → Option IngressRecord → Letter → List Letter → Work → List LinkEvent → Fate → Turned
-fated_turn m turn read letter others work events Open = record { work = work; events = events; status = Cut }
-fated_turn m turn read letter others work events TooLate = record { work = work; events = events; status = failed letter Late }
-fated_turn m turn read letter others work events (Told (NoAnswer note)) = record { work = work; events = events; status = failed letter (Lost note) }
-fated_turn m turn read letter others work events (Told (Answer answer)) = judged_turn turn read letter others answer work events (verdict m.egresses answer)
+abbrev pub fated_turn : Module → ℕ → Option IngressRecord → Sender → Address → List Letter → Work → List LinkEvent → Fate → Turned
+fated_turn m turn read sender target others work events Open = record { work = work; events = events; status = Cut }
+fated_turn m turn read sender target others work events TooLate = record { work = work; events = events; status = failed target Late }
+fated_turn m turn read sender target others work events (Told (NoAnswer note)) = record { work = work; events = events; status = failed target (Lost note) }
+fated_turn m turn read sender target others work events (Told (Answer answer)) = judged_turn turn read sender target others answer work events (verdict m.egresses answer)
 
 -- the letter that has waited longest is asked for
 abbrev pub asked_turn : Module → ℕ → ℕ → Heard → Work → List Letter → Turned
 asked_turn m patience turn heard work [] = record { work = work; events = []; status = status_at heard.read work }
 asked_turn m patience turn heard work (letter ∷ others) =
     if heard.started
-    then fated_turn m turn heard.read letter others work (start_of m turn letter ∷ map Polled heard.polls) (fate_of patience (call_in turn) heard.polls)
+    then fated_turn m turn heard.read letter.sender letter.target others work (start_of m turn letter ∷ map Polled heard.polls) (fate_of patience (call_in turn) heard.polls)
     else record { work = work; events = []; status = Cut }
 
 -- A turn: the record that was read becomes letters; then the letter that has waited longest is asked for.
