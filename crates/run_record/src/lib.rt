@@ -6,7 +6,7 @@ mod entry;
 mod module;
 mod routes;
 
-pub use egress::{put_address, put_egress_line, put_egress_text, put_escaped, put_hex, put_name};
+pub use egress::{put_address, put_answer_text, put_egress_line, put_egress_text, put_escaped, put_hex, put_name};
 pub use entry::{Entry, Reply, Step};
 pub use module::{Endpoint, IngressSpec, Module, TypePattern};
 pub use routes::Routes;
