@@ -123,13 +123,16 @@ abbrev pub batch_stamp : Option IngressRecord → ℕ
 batch_stamp None = 1
 batch_stamp (Some taken) = 2
 
-abbrev pub batch_entry : ℕ → Option IngressRecord → Sender → Address → List ℕ → Entry
-batch_entry turn read sender target answer = record {
+abbrev pub batch_of_picks : ℕ → Option IngressRecord → List Sender → Address → List ℕ → Entry
+batch_of_picks turn read picks target answer = record {
   leg = turn;
   stamp = batch_stamp read;
   node = 1;
-  step = Batch (record { call = call_in turn; address = target; moment = 0; picks = sender ∷ []; answer = answer });
+  step = Batch (record { call = call_in turn; address = target; moment = 0; picks = picks; answer = answer });
 }
+
+abbrev pub batch_entry : ℕ → Option IngressRecord → Sender → Address → List ℕ → Entry
+batch_entry turn read sender target answer = batch_of_picks turn read (sender ∷ []) target answer
 
 -- the run is done where the read found nothing and no letter is left
 abbrev pub status_at : Option IngressRecord → Work → Status
