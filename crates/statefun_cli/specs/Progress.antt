@@ -58,11 +58,13 @@ abbrev pub status_of : Option PlainEnd → Status
 status_of None = Going
 status_of (Some end) = Ended end
 
--- an end that no object of the outside is the cause of
+-- an end that no object of the outside is the cause of, nor the words, nor the number of turns
 abbrev pub IsCalm : Option PlainEnd → Type 0
 IsCalm (Some IngressFault) = ⊥
 IsCalm (Some LinkFault) = ⊥
 IsCalm (Some SinkFault) = ⊥
+IsCalm (Some (Usage word)) = ⊥
+IsCalm (Some (TurnsSpent taken)) = ⊥
 IsCalm end = Unit {0}
 
 -- the run ended with a call that was lost

@@ -5,5 +5,6 @@ mod asking;
 mod end;
 mod polling;
 mod progress;
+mod turn;
 
 pub use end::{PlainEnd, PlainRun};

@@ -1,5 +1,5 @@
 //! One run's own state, and what a turn does to it.
-ghost use Rattle.std.specs.Prelude.{◌≡◌, ◌<◌, ◌^◌, [], ◌∷◌, ◌++◌, map, List, OnOk, OnErr, Some, true, false, ◌⊎◌};
+ghost use Rattle.std.specs.Prelude.{◌≡◌, ◌<◌, ◌≤◌, ◌+◌, ◌^◌, [], ◌∷◌, ◌++◌, map, List, OnOk, OnErr, Some, true, false, ◌⊎◌};
 ghost use Rattle.typed_values.specs.declared.letter.Letter.{Letter};
 ghost use Rattle.sf_outside.specs.declared.call.LinkEvent.{LinkEvent};
 ghost use Rattle.request_reply.specs.declared.judging.Judged.TheVariants.{Accept};
@@ -57,21 +57,25 @@ impl Progress {
         }
     }
 
-    /// Takes a record that was read: it becomes letters, which wait behind the others. An `Err` leaves the record of
-    /// the steps as it was.
+    /// Takes the record that was read, where there is one: it becomes letters, which wait behind the others. An `Err`
+    /// leaves the record of the steps as it was.
     pub(crate) fn take(
         &mut self,
         alloc: Global,
         routes: &Routes,
         turn: u64,
-        record: &IngressRecord,
+        read: &Option<IngressRecord>,
     ) -> Mem<()>
         requires split { 0 < splits_in routes.now.ingresses }
         requires room { self.old.taken < 2 ^ 63 }
-        ensures ok { OnOk result (work_of self.new ≡ work_read routes.now turn (Some record.now) (work_of self.old)) }
+        ensures ok { OnOk result (work_of self.new ≡ work_read routes.now turn read.now (work_of self.old)) }
         ensures err { OnErr result (self.new.entries ≡ self.old.entries) }
         ensures text { self.new.text ≡ self.old.text }
+        ensures taken { self.new.taken ≤ self.old.taken + 1 }
     {
+        let Some(record) = read else {
+            return Ok(());
+        };
         let mut letters = VecDeque::from(routes.letters(alloc, 0, record)?.into_vec());
         self.waiting.append(&mut letters)?;
         self.entries.push(Entry {
@@ -183,7 +187,7 @@ impl Progress {
     }
 
     // The run is done where the read found nothing and no letter is left.
-    fn end_at(&self, read: &Option<IngressRecord>) -> Option<PlainEnd>
+    pub(crate) fn end_at(&self, read: &Option<IngressRecord>) -> Option<PlainEnd>
         ensures { status_at read.now (work_of self.now) ≡ status_of result }
     {
         if read.is_none() && self.waiting.is_empty() {
