@@ -1,3 +1,4 @@
 pub mod Polls
 pub mod Settling
 pub mod Serving
+pub mod Reading

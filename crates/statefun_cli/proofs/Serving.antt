@@ -45,7 +45,7 @@ at_fault : (fault : Fault) (made : Turned) (new : Work) → IsFront new.entries 
 at_fault faults.Failed made new h = h
 at_fault faults.OutOfMemory made new h = h
 
-no_polls : (patience : ℕ) (turn : ℕ) → AreItsPolls patience (call_in turn) []
+pub no_polls : (patience : ℕ) (turn : ℕ) → AreItsPolls patience (call_in turn) []
 no_polls patience turn = record { few = omega arith; stops = λ front last is. absurd (empty front last is) }
   where
     empty : (front : List (Option Outcome)) (last : Option Outcome) → [] ≡ front ++ last ∷ [] → ⊥

@@ -40,8 +40,9 @@ impl Progress {
         ensures own { IsTurnsOwn result }
         ensures taken { self.new.taken ≤ self.old.taken + 1 }
     {
-        if self.take(alloc, routes, turn, &read).is_err() {
-            return Some(PlainEnd::OutOfMemory);
+        match self.take(alloc, routes, turn, &read) {
+            Ok(()) => {}
+            Err(_) => return Some(PlainEnd::OutOfMemory),
         }
         match self.waiting.pop_front() {
             None => self.end_at(&read),
