@@ -2,5 +2,7 @@
 #![tactic(auto)]
 
 mod end;
+mod words;
 
 pub use end::{PlainEnd, PlainRun};
+pub use words::{Plan, WordsFault};
