@@ -86,8 +86,12 @@ plan_of words = do
   turns ← turns_of words
   Ok (record { «module» = plain_module kind url value_type egress; turns = turns })
 
--- an answer on words that are read so
+-- what a fault says of words that are read so: where they are wrong
+abbrev pub IsWrong : {A : Type 0} → Result A ℕ → WordsFault → Type 0
+IsWrong read (Usage place) = read ≡ Err place
+IsWrong read OutOfMemory = Unit {0}
+
+-- what an answer says of them
 abbrev pub Reads : {A : Type 0} → Result A ℕ → Result A WordsFault → Type 0
 Reads read (Ok x) = read ≡ Ok x
-Reads read (Err (Usage place)) = read ≡ Err place
-Reads read (Err OutOfMemory) = Unit {0}
+Reads read (Err fault) = IsWrong read fault

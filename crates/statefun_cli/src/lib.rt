@@ -5,4 +5,4 @@ mod end;
 mod words;
 
 pub use end::{PlainEnd, PlainRun};
-pub use words::{Plan, WordsFault};
+pub use words::{Plan, WordsFault, read_words};
