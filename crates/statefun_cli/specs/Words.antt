@@ -86,6 +86,14 @@ plan_of words = do
   turns ← turns_of words
   Ok (record { «module» = plain_module kind url value_type egress; turns = turns })
 
+-- a module that is made so
+pub record IsPlain (m : Module) : Type 0 where
+  pub kind : TypeName
+  pub url : List ℕ
+  pub value_type : List ℕ
+  pub egress : TypeName
+  pub is : m ≡ plain_module kind url value_type egress
+
 -- what a fault says of words that are read so: where they are wrong
 abbrev pub IsWrong : {A : Type 0} → Result A ℕ → WordsFault → Type 0
 IsWrong read (Usage place) = read ≡ Err place

@@ -1,10 +1,10 @@
 //! The words of the command line.
-ghost use Rattle.std.specs.Prelude.{◌≡◌, ◌↔◌, ◌≤◌, ◌<◌, slice_index, slice_get, codes, List, map, Ok, IfOk, IfErr, IsTrue};
+ghost use Rattle.std.specs.Prelude.{◌≡◌, ◌↔◌, ◌≤◌, ◌<◌, slice_index, slice_get, codes, List, map, Ok, IfOk, IfErr, IfSome, IsTrue};
 ghost use Rattle.std.specs.Option.{option_copied};
 ghost use Rattle.std.specs.String.{string_bytes};
 ghost use Rattle.typed_values.specs.Names.{name_in};
 ghost use Rattle.run_record.specs.Routing.{is_routable};
-ghost use Rattle.statefun_cli.specs.Words.{command_in, url_in, value_type_in, turns_in, turns_within, turns_of, joined_turns_in, read_at, plain_module, plan_of, is_at, IsWrong, Reads};
+ghost use Rattle.statefun_cli.specs.Words.{command_in, url_in, value_type_in, turns_in, turns_within, turns_of, joined_turns_in, read_at, plain_module, plan_of, is_at, IsPlain, IsWrong, Reads};
 ghost use Rattle.statefun_cli.specs.declared.words.WordsFault.TheVariants.{Usage, OutOfMemory as WantsMemory};
 
 use proto_wire::{List, Mem, OutOfMemory, Text, TryClone};
@@ -43,7 +43,10 @@ impl From<OutOfMemory> for WordsFault {
 /// number where something is missing.
 #[tactic(auto, unfolding(crate::specs::Words::plan_of))]
 pub fn read_words(alloc: Global, words: &[String]) -> Result<Plan, WordsFault>
-    ensures { Reads (plan_of (map string_bytes words.now)) result }
+    ensures reads { Reads (plan_of (map string_bytes words.now)) result }
+    ensures plain { IfOk result (λ plan. IsPlain plan.module) }
+    ensures routable { IfOk result (λ plan. IsTrue (is_routable plan.module)) }
+    ensures turns { IfOk result (λ plan. (1 ≤ plan.turns) × (plan.turns ≤ 1000000000)) }
 {
     let _command = command_at(words)?;
     let kind = name_at(alloc, words, 1)?;
@@ -149,7 +152,8 @@ fn name_at(alloc: Global, words: &[String], place: usize) -> Result<TypeName, Wo
 /// The number of turns, from place 5 on, with nothing behind it.
 #[tactic(auto, unfolding(crate::specs::Words::turns_of))]
 fn turns_of(words: &[String]) -> Result<u64, WordsFault>
-    ensures { Reads (turns_of (map string_bytes words.now)) result }
+    ensures reads { Reads (turns_of (map string_bytes words.now)) result }
+    ensures bound { IfOk result (λ turns. (1 ≤ turns) × (turns ≤ 1000000000)) }
 {
     if is_turns_at(words) {
         let turns = turns_at(words)?;
@@ -171,7 +175,8 @@ fn is_turns_at(words: &[String]) -> bool
 
 #[tactic(auto, unfolding(crate::specs::Words::read_at))]
 fn turns_at(words: &[String]) -> Result<u64, WordsFault>
-    ensures { Reads (read_at turns_in (map string_bytes words.now) 6) result }
+    ensures reads { Reads (read_at turns_in (map string_bytes words.now) 6) result }
+    ensures bound { IfOk result (λ turns. (1 ≤ turns) × (turns ≤ 1000000000)) }
 {
     match word_at(words, 6) {
         Some(word) => match turns_in(word) {
@@ -184,7 +189,8 @@ fn turns_at(words: &[String]) -> Result<u64, WordsFault>
 
 #[tactic(auto, unfolding(crate::specs::Words::read_at))]
 fn joined_turns_at(words: &[String]) -> Result<u64, WordsFault>
-    ensures { Reads (read_at joined_turns_in (map string_bytes words.now) 5) result }
+    ensures reads { Reads (read_at joined_turns_in (map string_bytes words.now) 5) result }
+    ensures bound { IfOk result (λ turns. (1 ≤ turns) × (turns ≤ 1000000000)) }
 {
     match word_at(words, 5) {
         Some(word) => match joined_turns_in(word) {
@@ -199,7 +205,8 @@ const MOST_TURNS: u64 = 1_000_000_000;
 
 /// A number of turns: decimal digits without a leading zero, from 1 to 1,000,000,000.
 fn turns_in(word: &str) -> Option<u64>
-    ensures { result ≡ turns_in word.now }
+    ensures value { result ≡ turns_in word.now }
+    ensures bound { IfSome result (λ turns. (1 ≤ turns) × (turns ≤ 1000000000)) }
 {
     if !is_led(word) {
         return None;
@@ -221,14 +228,16 @@ fn is_led(word: &str) -> bool
 }
 
 fn turns_within(turns: u64) -> Option<u64>
-    ensures { result ≡ turns_within turns }
+    ensures value { result ≡ turns_within turns }
+    ensures bound { IfSome result (λ turns. (1 ≤ turns) × (turns ≤ 1000000000)) }
 {
     if 1 <= turns && turns <= MOST_TURNS { Some(turns) } else { None }
 }
 
 /// `--turns=N` as one word.
 fn joined_turns_in(word: &str) -> Option<u64>
-    ensures { result ≡ joined_turns_in word.now }
+    ensures value { result ≡ joined_turns_in word.now }
+    ensures bound { IfSome result (λ turns. (1 ≤ turns) × (turns ≤ 1000000000)) }
 {
     match word.strip_prefix("--turns=") {
         Some(number) => turns_in(number),
