@@ -1,3 +1,4 @@
 pub mod Numbers
 pub mod PlainJob
 pub mod Appended
+pub mod Written

@@ -3,8 +3,10 @@
 
 mod end;
 mod line;
+mod output;
 mod words;
 
 pub use end::{PlainEnd, PlainRun};
 pub use line::put_decimal;
+pub use output::write_whole;
 pub use words::{Plan, WordsFault, read_words};
