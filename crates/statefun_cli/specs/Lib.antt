@@ -2,3 +2,5 @@ pub mod Turns
 pub mod Polling
 pub mod Progress
 pub mod Making
+pub mod Words
+pub mod Ends

@@ -3,8 +3,14 @@
 
 mod asking;
 mod end;
+mod line;
+mod output;
 mod polling;
 mod progress;
 mod turn;
+mod words;
 
 pub use end::{PlainEnd, PlainRun};
+pub use line::put_decimal;
+pub use output::write_whole;
+pub use words::{Plan, WordsFault, read_words};
