@@ -1,3 +1,4 @@
 pub mod Told
 pub mod Splits
 pub mod Answers
+pub mod Failing

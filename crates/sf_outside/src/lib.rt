@@ -2,13 +2,18 @@
 #![tactic(auto)]
 
 mod call;
+mod call_count;
 mod fault;
 mod ingress;
 mod link;
+mod memory_ingress;
+mod memory_sink;
 mod sink;
 
 pub use call::{Answered, Call, Exchange, LinkEvent, Outcome};
 pub use fault::Fault;
 pub use ingress::{Ingress, IngressRecord};
 pub use link::Link;
+pub use memory_ingress::MemoryIngress;
+pub use memory_sink::MemorySink;
 pub use sink::Sink;
