@@ -2,3 +2,4 @@ pub mod Told
 pub mod Splits
 pub mod Answers
 pub mod Failing
+pub mod Script

@@ -5,10 +5,12 @@ mod call;
 mod call_count;
 mod fault;
 mod ingress;
+mod journal;
 mod link;
 mod memory_ingress;
 mod memory_sink;
 mod sink;
+mod turn;
 
 pub use call::{Answered, Call, Exchange, LinkEvent, Outcome};
 pub use fault::Fault;
@@ -17,3 +19,4 @@ pub use link::Link;
 pub use memory_ingress::MemoryIngress;
 pub use memory_sink::MemorySink;
 pub use sink::Sink;
+pub use turn::Turn;
