@@ -3,3 +3,4 @@ pub mod Splits
 pub mod Answers
 pub mod Failing
 pub mod Script
+pub mod Untouched

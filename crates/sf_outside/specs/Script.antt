@@ -1,5 +1,5 @@
 -- What a link that follows a script tells.
-use Rattle.std.specs.Prelude.{◌≡◌, ℕ, zero, suc, ◌+◌, ◌-◌, ◌^◌, min, List, [], ◌∷◌, Option, Some, None, slice_get}
+use Rattle.std.specs.Prelude.{◌≡◌, ℕ, zero, suc, ◌+◌, ◌-◌, ◌^◌, min, List, [], ◌∷◌, Option, Some, None, slice_get, length, nat_lt, if◌then◌else◌}
 use Rattle.sf_outside.specs.declared.call.Answered.{Answered}
 use Rattle.sf_outside.specs.declared.call.Answered.TheVariants.{Answer, Lost}
 use Rattle.sf_outside.specs.declared.call.Outcome.{Outcome}
@@ -59,3 +59,7 @@ losses_by losses (Lost note) = min (losses + 1) (2 ^ 64 - 1)
 abbrev pub losses_behind : ℕ → Option Outcome → ℕ
 losses_behind losses None = losses
 losses_behind losses (Some outcome) = losses_by losses outcome.what
+
+-- how many turns are taken behind a poll
+abbrev pub turns_behind : List Turn → ℕ → ℕ
+turns_behind turns taken = if nat_lt taken (length turns) then taken + 1 else taken

@@ -9,6 +9,8 @@ mod journal;
 mod link;
 mod memory_ingress;
 mod memory_sink;
+mod planned;
+mod script_link;
 mod sink;
 mod turn;
 
@@ -18,5 +20,6 @@ pub use ingress::{Ingress, IngressRecord};
 pub use link::Link;
 pub use memory_ingress::MemoryIngress;
 pub use memory_sink::MemorySink;
+pub use script_link::ScriptLink;
 pub use sink::Sink;
 pub use turn::Turn;
