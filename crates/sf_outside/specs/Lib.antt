@@ -4,3 +4,4 @@ pub mod Answers
 pub mod Failing
 pub mod Script
 pub mod Untouched
+pub mod Fixed

@@ -4,6 +4,7 @@
 mod call;
 mod call_count;
 mod fault;
+mod fixed_link;
 mod ingress;
 mod journal;
 mod link;
@@ -13,9 +14,11 @@ mod planned;
 mod script_link;
 mod sink;
 mod turn;
+mod writer_sink;
 
 pub use call::{Answered, Call, Exchange, LinkEvent, Outcome};
 pub use fault::Fault;
+pub use fixed_link::FixedLink;
 pub use ingress::{Ingress, IngressRecord};
 pub use link::Link;
 pub use memory_ingress::MemoryIngress;
@@ -23,3 +26,4 @@ pub use memory_sink::MemorySink;
 pub use script_link::ScriptLink;
 pub use sink::Sink;
 pub use turn::Turn;
+pub use writer_sink::WriterSink;
