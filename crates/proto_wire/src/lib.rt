@@ -6,10 +6,13 @@ mod compared;
 mod fault;
 mod list;
 mod memory;
+mod record;
 mod text;
+mod varint;
 
 pub use bytes::Bytes;
 pub use fault::{DecodeFault, WireFault, WireKind};
 pub use list::List;
 pub use memory::{Mem, OutOfMemory, Same, TryClone};
+pub use record::Record;
 pub use text::Text;

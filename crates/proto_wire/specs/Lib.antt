@@ -1,0 +1,4 @@
+pub mod Reads
+pub mod Varint
+pub mod Record
+pub mod Seen
