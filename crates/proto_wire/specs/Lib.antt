@@ -2,3 +2,4 @@ pub mod Reads
 pub mod Varint
 pub mod Record
 pub mod Seen
+pub mod Message

@@ -18,3 +18,8 @@ Fails (Wire e) read = read ≡ Err e
 abbrev pub Gives : {X Y : Type 0} → (X → Y) → Result X DecodeFault → Result Y WireFault → Type 0
 Gives view (Ok x) read = read ≡ Ok (view x)
 Gives view (Err e) read = Fails e read
+
+-- what stands after the call is what the bytes say, unless it failed
+abbrev pub Changes : {X : Type 0} → Result (Unit {0}) DecodeFault → X → Result X WireFault → Type 0
+Changes (Ok x) new read = read ≡ Ok new
+Changes (Err e) new read = Fails e read
