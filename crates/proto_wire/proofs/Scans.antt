@@ -1,14 +1,14 @@
 -- Records one after the other.
-use Rattle.std.proofs.Common.{◌≡◌, ◌≢◌, ℕ, zero, suc, ◌+◌, ◌-◌, ◌*◌, ◌/◌, ◌%◌, ◌^◌, ◌<◌, ◌≤◌, Bool, true, false, cond, ltb, eqb, List, [], ◌∷◌, ◌++◌, length, take, drop, Result, Ok, Err, refl, sym, ap, subst, ◌∙◌, arith, length-drop, nat_lt, ◌==◌}
-use Rattle.std.specs.Int.{Width, w32, w64, byte_len, from_le_bytes}
+use Rattle.std.proofs.Common.{◌≡◌, ℕ, zero, suc, ◌+◌, ◌-◌, ◌*◌, ◌%◌, ◌^◌, ◌<◌, ◌≤◌, Bool, true, false, cond, ltb, eqb, List, [], ◌∷◌, length, drop, Result, Ok, Err, refl, ap, subst, ◌∙◌, arith, length-drop}
+use Rattle.std.specs.Int.{Width, w32, w64, byte_len}
 use Rattle.proto_wire.specs.declared.fault.WireFault.{WireFault}
-use Rattle.proto_wire.specs.declared.fault.WireKind.TheVariants.{Truncated, LongVarint, TagTooLarge, FieldZero, WireType}
+use Rattle.proto_wire.specs.declared.fault.WireKind.TheVariants.{Truncated, TagTooLarge, FieldZero, WireType}
 use Rattle.proto_wire.specs.declared.fault.DecodeFault.{DecodeFault}
 use Rattle.proto_wire.specs.declared.fault.DecodeFault.TheVariants.{Wire, OutOfMemory}
 use Rattle.proto_wire.specs.Varint.{◌>>=◌, place, fault, groups, varint_in}
-use Rattle.proto_wire.specs.Record.{Item, item, is_wire, tag_in, fixed_in, delimited_in, number_in, payload_in, record_in, Scan, Whole, Broken, Then, then_scan, records_by, records_in}
+use Rattle.proto_wire.specs.Record.{Item, item, is_wire, tag_in, fixed_in, delimited_in, number_in, payload_in, record_in, Whole, Then, then_scan, records_by, records_in}
 use Rattle.proto_wire.specs.Reads.{Fails}
-use Rattle.proto_wire.specs.Message.{Row, accepted, merged, value_in}
+use Rattle.proto_wire.specs.Message.{Row, accepted, value_in}
 
 -- what is left is shorter than what was read from
 abbrev pub Shorter : {A : Type 0} → List ℕ → Result (A × List ℕ) WireFault → Type 0
@@ -90,8 +90,8 @@ payload_in-no_longer : (end tag : ℕ) (bytes : List ℕ) → NoLonger bytes (pa
 unfolding payload_in
 payload_in-no_longer end tag bytes =
     NoLonger-cond bytes (eqb (tag % 8) 0) _ _ (number_in-no_longer end tag bytes)
-        (NoLonger-cond bytes (eqb (tag % 8) 1) _ _ (fixed_in-no_longer w64 end tag bytes)
-            (NoLonger-cond bytes (eqb (tag % 8) 2) _ _ (delimited_in-no_longer end tag bytes) (fixed_in-no_longer w32 end tag bytes)))
+    (NoLonger-cond bytes (eqb (tag % 8) 1) _ _ (fixed_in-no_longer w64 end tag bytes)
+    (NoLonger-cond bytes (eqb (tag % 8) 2) _ _ (delimited_in-no_longer end tag bytes) (fixed_in-no_longer w32 end tag bytes)))
 
 -- a record takes at least one byte
 pub record_in-shorter : (end : ℕ) (bytes : List ℕ) → Shorter bytes (record_in end bytes)

@@ -1,10 +1,10 @@
 -- Messages as tables of fields (Protocol Buffers encoding guide).
-use Rattle.std.specs.Prelude.{ℕ, zero, suc, ◌+◌, ◌*◌, ◌%◌, ◌^◌, ℤ, pos, Bool, true, false, not, List, [], ◌∷◌, ◌++◌, length, Option, Some, None, Result, Ok, Err, nat_lt, ◌==◌, ◌&&◌, if◌then◌else◌}
-use Rattle.std.specs.Int.{w32, w64, cast_signed, cast_unsigned, from_le_bytes}
+use Rattle.std.specs.Prelude.{ℕ, ◌%◌, ◌^◌, ◌-◌, min, ℤ, Bool, true, false, not, List, [], ◌∷◌, ◌++◌, Option, Some, None, Result, Ok, Err, nat_lt, ◌==◌, ◌&&◌, if◌then◌else◌}
+use Rattle.std.specs.Int.{w32, w64, cast_signed, cast_unsigned}
 use Rattle.std.specs.Str.{is_utf8}
 use Rattle.proto_wire.specs.declared.fault.WireFault.{WireFault}
 use Rattle.proto_wire.specs.declared.fault.WireKind.TheVariants.{NotUtf8, OverLimit}
-use Rattle.proto_wire.specs.Varint.{◌>>=◌, place, fault}
+use Rattle.proto_wire.specs.Varint.{◌>>=◌, fault}
 use Rattle.proto_wire.specs.Record.{Item, Scan, Whole, Broken, Then, records_in, number_record, bytes_record}
 
 -- one field of a message: its number, its wire type, how a record of it enters the value, and how it is spelled
@@ -62,6 +62,14 @@ abbrev pub joined : {M : Type 0} → M → List (Row M) → Option M → Item �
 joined blank rows None item = value_in rows blank item.end item.payload
 joined blank rows (Some value) item = value_in rows value item.end item.payload
 
+-- the one that stands, or none, with the payload in it
+abbrev pub entered : {M : Type 0} → M → List (Row M) → Option M → Item → Result (Option M) WireFault
+entered blank rows value item = joined blank rows value item >>= λ next. Ok (Some next)
+
+-- the list, and the message of the payload behind it
+abbrev pub appended : {M : Type 0} → M → List (Row M) → List M → Item → Result (List M) WireFault
+appended blank rows values item = value_in rows blank item.end item.payload >>= λ next. Ok (values ++ next ∷ [])
+
 -- ---- how a field is spelled
 
 -- bytes, where there are any
@@ -110,8 +118,12 @@ numbers field get put = record { field = field; wire = 0; enters = λ value item
 
 -- a message is there once: a further record goes on from the value that stands
 abbrev pub messages : {M N : Type 0} → N → List (Row N) → ℕ → (M → Option N) → (M → Option N → M) → Row M
-messages blank rows field get put = record { field = field; wire = 2; enters = λ value item. joined blank rows (get value) item >>= λ inner. Ok (put value (Some inner)); spells = λ value. spelled_message rows field (get value) }
+messages blank rows field get put = record { field = field; wire = 2; enters = λ value item. entered blank rows (get value) item >>= λ next. Ok (put value next); spells = λ value. spelled_message rows field (get value) }
 
 -- each record is one more message of the list
 abbrev pub lists : {M N : Type 0} → N → List (Row N) → ℕ → (M → List N) → (M → List N → M) → Row M
-lists blank rows field get put = record { field = field; wire = 2; enters = λ value item. joined blank rows None item >>= λ inner. Ok (put value (get value ++ inner ∷ [])); spells = λ value. spelled_messages rows field (get value) }
+lists blank rows field get put = record { field = field; wire = 2; enters = λ value item. appended blank rows (get value) item >>= λ next. Ok (put value next); spells = λ value. spelled_messages rows field (get value) }
+
+-- a length, or 2 ^ 64 - 1 where it is greater
+abbrev pub capped : ℕ → ℕ
+capped len = min len (2 ^ 64 - 1)

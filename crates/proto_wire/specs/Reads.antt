@@ -1,5 +1,5 @@
 -- What readers owe.
-use Rattle.std.specs.Prelude.{◌≡◌, Result, Ok, Err}
+use Rattle.std.specs.Prelude.{◌≡◌, ℕ, List, length, take, Result, Ok, Err}
 use Rattle.proto_wire.specs.declared.fault.WireFault.{WireFault}
 use Rattle.proto_wire.specs.declared.fault.DecodeFault.{DecodeFault}
 use Rattle.proto_wire.specs.declared.fault.DecodeFault.TheVariants.{Wire, OutOfMemory}
@@ -23,3 +23,7 @@ Gives view (Err e) read = Fails e read
 abbrev pub Changes : {X : Type 0} → Result (Unit {0}) DecodeFault → X → Result X WireFault → Type 0
 Changes (Ok x) new read = read ≡ Ok new
 Changes (Err e) new read = Fails e read
+
+-- the bytes that stood still stand in front
+abbrev pub Keeps : List ℕ → List ℕ → Type 0
+Keeps old new = take (length old) new ≡ old

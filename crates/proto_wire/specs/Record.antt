@@ -1,5 +1,5 @@
 -- Records (Protocol Buffers encoding guide, "Message Structure"): a tag, which is a field and a wire type, and a payload.
-use Rattle.std.specs.Prelude.{ℕ, zero, suc, ◌+◌, ◌-◌, ◌*◌, ◌/◌, ◌%◌, ◌^◌, Bool, true, false, List, [], ◌∷◌, ◌++◌, length, take, drop, Result, Ok, Err, nat_lt, ◌==◌, ◌||◌, if◌then◌else◌}
+use Rattle.std.specs.Prelude.{ℕ, zero, suc, ◌+◌, ◌-◌, ◌*◌, ◌/◌, ◌%◌, ◌^◌, Bool, List, [], ◌∷◌, ◌++◌, length, take, drop, Result, Ok, Err, nat_lt, ◌==◌, ◌||◌, if◌then◌else◌}
 use Rattle.std.specs.Int.{Width, w32, w64, byte_len, from_le_bytes}
 use Rattle.proto_wire.specs.declared.fault.WireFault.{WireFault}
 use Rattle.proto_wire.specs.declared.fault.WireKind.TheVariants.{Truncated, TagTooLarge, FieldZero, WireType}
@@ -21,8 +21,8 @@ is_wire wire = (wire == 0) || (wire == 1) || (wire == 2) || (wire == 5)
 unfoldable pub tag_in : ℕ → List ℕ → Result (ℕ × List ℕ) WireFault
 tag_in end bytes = varint_in end bytes >>= λ tag.
     if nat_lt tag.0 (2 ^ 32)
-      then (if nat_lt tag.0 8 then fault FieldZero end bytes else (if is_wire (tag.0 % 8) then Ok tag else fault WireType end bytes))
-      else fault TagTooLarge end bytes
+    then (if nat_lt tag.0 8 then fault FieldZero end bytes else (if is_wire (tag.0 % 8) then Ok tag else fault WireType end bytes))
+    else fault TagTooLarge end bytes
 
 -- the first bytes, down to those that are left, as a record
 abbrev pub item : ℕ → ℕ → ℕ → List ℕ → ℕ → List ℕ → Item × List ℕ

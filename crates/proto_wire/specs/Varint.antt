@@ -29,9 +29,9 @@ groups at (suc more) (b ∷ bytes) =
 unfoldable pub varint_in : ℕ → List ℕ → Result (ℕ × List ℕ) WireFault
 varint_in end bytes = groups (place end bytes) 10 bytes
 
--- the shortest groups of a number below 2 ^ 64
+-- the shortest groups of a number, of which there are `more` beside the last at most
 unfoldable pub groups_of : ℕ → ℕ → List ℕ
-groups_of zero number = number ∷ []
+groups_of zero number = number % 128 ∷ []
 groups_of (suc more) number = if nat_lt number 128 then number ∷ [] else (number % 128 + 128) ∷ groups_of more (number / 128)
 
 -- the shortest varint

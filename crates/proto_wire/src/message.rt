@@ -1,8 +1,8 @@
 //! Messages: how their records are read, one loop for all.
-ghost use Rattle.std.specs.Prelude.{◌≡◌, ◌++◌, ◌∷◌, [], List, Some, None, Bool, ◌%◌, ◌^◌, IfOk};
+ghost use Rattle.std.specs.Prelude.{◌≡◌, ◌++◌, ◌∷◌, [], List, Some, None, Bool, length, ◌%◌, ◌^◌, IfOk};
 ghost use Rattle.proto_wire.specs.Reads.{Gives, Changes};
 ghost use Rattle.proto_wire.specs.Seen.{item_of};
-ghost use Rattle.proto_wire.specs.Message.{Row, accepted, value_in, joined, belongs, text_of, enum_of, long_of, bool_of, short_of, spelling};
+ghost use Rattle.proto_wire.specs.Message.{Row, accepted, value_in, joined, belongs, text_of, enum_of, long_of, bool_of, short_of, spelling, capped};
 
 use crate::record::record_in;
 use crate::{Bytes, DecodeFault, List, Mem, Record, Text, WireFault, WireKind};
@@ -24,6 +24,14 @@ pub trait Message: Drop {
     /// further use.
     fn accept(&mut self, alloc: Global, item: &Record<'_>) -> Result<(), DecodeFault>
         ensures { Changes result self.new (accepted rows self.old (item_of item.now)) };
+
+    /// The length of the canonical spelling, or `u64::MAX` where it is greater. Takes no memory.
+    fn size(&self) -> u64
+        ensures { result ≡ capped (length (spelling rows self.now)) };
+
+    /// Adds the canonical spelling at the end.
+    fn put(&self, into: Bytes) -> Mem<Bytes>
+        ensures { IfOk result (λ bytes. bytes ≡ into ++ spelling rows self.now) };
 }
 
 /// Reads bytes, which end at the place `end` of the whole input, into the message that stands: each record from left to right, down to the first fault.

@@ -30,13 +30,22 @@ fn tag_in(end: usize, bytes: &[u8]) -> Result<(u32, &[u8]), WireFault>
     let (tag, rest) = varint_in(end, bytes)?;
     let at = place(end, bytes);
     let Ok(tag) = u32::try_from(tag) else {
-        return Err(WireFault { kind: WireKind::TagTooLarge, at });
+        return Err(WireFault {
+            kind: WireKind::TagTooLarge,
+            at,
+        });
     };
     if tag < 8 {
-        return Err(WireFault { kind: WireKind::FieldZero, at });
+        return Err(WireFault {
+            kind: WireKind::FieldZero,
+            at,
+        });
     }
     if !is_wire(tag % 8) {
-        return Err(WireFault { kind: WireKind::WireType, at });
+        return Err(WireFault {
+            kind: WireKind::WireType,
+            at,
+        });
     }
     Ok((tag, rest))
 }

@@ -1,9 +1,9 @@
 //! Varints (Protocol Buffers encoding guide, "Base 128 Varints").
-ghost use Rattle.std.specs.Prelude.{◌≡◌, ◌+◌, ◌*◌, ◌-◌, ◌%◌, ◌^◌, ◌<◌, ◌≤◌, ◌++◌, length, IfOk, OnOk, OnErr};
+ghost use Rattle.std.specs.Prelude.{◌≡◌, ◌+◌, ◌*◌, ◌-◌, ◌%◌, ◌^◌, ◌<◌, ◌≤◌, ◌++◌, length, take, IfOk, OnOk, OnErr};
 ghost use Rattle.proto_wire.specs.Varint.{place, groups, varint_in, varint, groups_of};
-ghost use Rattle.proto_wire.specs.Reads.{Reads};
+ghost use Rattle.proto_wire.specs.Reads.{Reads, Keeps};
 
-use crate::{WireFault, WireKind};
+use crate::{Bytes, Mem, WireFault, WireKind};
 
 /// The place of the first of the bytes, which end at the place `end` of the whole input.
 pub fn place(end: usize, bytes: &[u8]) -> usize
@@ -50,4 +50,54 @@ fn joined(byte: u8, high: u64) -> u64
     ensures { result ≡ (byte - 128 + 128 * high) % 2 ^ 64 }
 {
     u64::from(byte - 128).wrapping_add(high.wrapping_mul(128))
+}
+
+/// How many bytes the shortest varint of a number takes: 1 to 10.
+#[tactic(auto, unfolding(crate::specs::Varint::varint))]
+pub fn varint_size(value: u64) -> u64
+    ensures size { result ≡ length (varint value) }
+    ensures least { 1 ≤ result }
+    ensures most { result ≤ 10 }
+{
+    groups_size(9, value)
+}
+
+#[tactic(auto, unfolding(crate::specs::Varint::groups_of))]
+fn groups_size(more: u32, value: u64) -> u64
+    requires { more < 10 }
+    ensures size { result ≡ length (groups_of more value) }
+    ensures least { 1 ≤ result }
+    ensures most { result ≤ more + 1 }
+{
+    if more == 0 || value < 128 {
+        return 1;
+    }
+    1 + groups_size(more - 1, value / 128)
+}
+
+/// Adds the shortest varint of a number at the end. An `Err` changes nothing.
+#[tactic(auto, unfolding(crate::specs::Varint::varint))]
+pub fn put_varint(into: &mut Bytes, value: u64) -> Mem<()>
+    ensures ok { OnOk result (into.new ≡ into.old ++ varint value) }
+    ensures err { OnErr result (into.new ≡ into.old) }
+{
+    let len = into.len();
+    let put = put_groups(into, 9, value);
+    if put.is_err() {
+        into.truncate(len);
+    }
+    put
+}
+
+#[tactic(auto, unfolding(crate::specs::Varint::groups_of))]
+fn put_groups(into: &mut Bytes, more: u32, value: u64) -> Mem<()>
+    ensures ok { OnOk result (into.new ≡ into.old ++ groups_of more value) }
+    ensures err { OnErr result (Keeps into.old into.new) }
+{
+    let low = (value % 128) as u8;
+    if more == 0 || value < 128 {
+        return into.push(low);
+    }
+    into.push(low + 128)?;
+    put_groups(into, more - 1, value / 128)
 }
