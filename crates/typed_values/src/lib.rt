@@ -3,6 +3,7 @@
 
 mod address;
 mod letter;
+mod messages;
 mod name;
 mod value;
 
