@@ -26,4 +26,4 @@ pub use put::{
 };
 pub use record::Record;
 pub use text::Text;
-pub use varint::{put_varint, varint_size};
+pub use varint::{put_varint, varint_in, varint_size};

@@ -5,3 +5,4 @@ pub mod Failing
 pub mod Script
 pub mod Untouched
 pub mod Fixed
+pub mod Log

@@ -5,6 +5,7 @@ mod call;
 mod call_count;
 mod fault;
 mod fixed_link;
+mod front;
 mod ingress;
 mod journal;
 mod link;
