@@ -6,3 +6,4 @@ pub mod Script
 pub mod Untouched
 pub mod Fixed
 pub mod Log
+pub mod Unread

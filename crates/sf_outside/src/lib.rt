@@ -15,6 +15,7 @@ mod planned;
 mod script_link;
 mod sink;
 mod turn;
+mod unread;
 mod writer_sink;
 
 pub use call::{Answered, Call, Exchange, LinkEvent, Outcome};
