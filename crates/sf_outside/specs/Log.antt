@@ -1,5 +1,5 @@
 -- Ingress logs: for each record the length of a message, as a varint, and the message.
-use Rattle.std.specs.Prelude.{◌≡◌, ℕ, zero, suc, ◌-◌, List, [], ◌∷◌, ◌++◌, length, take, drop, Option, Some, None, Result, Ok, Err, nat_lt, if◌then◌else◌}
+use Rattle.std.specs.Prelude.{◌≡◌, ◌≢◌, ℕ, zero, suc, ◌-◌, List, [], ◌∷◌, ◌++◌, length, take, drop, Option, Some, None, Result, Ok, Err, nat_lt, if◌then◌else◌, option_map}
 use Rattle.proto_wire.specs.declared.fault.WireFault.{WireFault}
 use Rattle.proto_wire.specs.declared.fault.WireKind.{WireKind}
 use Rattle.proto_wire.specs.declared.fault.WireKind.TheVariants.{Truncated}
@@ -62,3 +62,17 @@ behind (Whole it len) log more = more (drop len log)
 abbrev pub log_record : ℕ → List ℕ → Option IngressRecord
 log_record zero log = first_record (front_of log)
 log_record (suc n) log = behind (front_of log) log (log_record n)
+
+-- the bytes that were read ahead and those behind them, where those are known
+abbrev pub known : List ℕ → Option (List ℕ) → Option (List ℕ)
+known held left = option_map (λ more. held ++ more) left
+
+-- a read of a known log found its first record, or nothing where that is cut, and left the rest
+abbrev pub TakesFirst : Option (List ℕ) → Option (List ℕ) → Option IngressRecord → Type 0
+TakesFirst None now found = Unit {0}
+TakesFirst (Some log) now found = (front_of log ≢ Bad) × (found ≡ first_record (front_of log)) × (now ≡ Some (rest_of (front_of log) log))
+
+-- a read of a known log found record number n
+abbrev pub FindsRecord : Option (List ℕ) → ℕ → Option IngressRecord → Type 0
+FindsRecord None n found = Unit {0}
+FindsRecord (Some log) n found = found ≡ log_record n log

@@ -63,7 +63,12 @@ pub(crate) fn front_of(alloc: Global, log: &[u8]) -> Mem<Front>
 {
     match varint_in(0, log) {
         Ok((len, rest)) => framed(alloc, log.len(), len, rest),
-        Err(WireFault { kind: WireKind::Truncated, .. }) => Ok(Front::Cut),
+        Err(
+            WireFault {
+                kind: WireKind::Truncated,
+                ..
+            },
+        ) => Ok(Front::Cut),
         Err(_) => Ok(Front::Bad),
     }
 }

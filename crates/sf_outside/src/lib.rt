@@ -14,6 +14,7 @@ mod memory_sink;
 mod planned;
 mod script_link;
 mod sink;
+mod split_log;
 mod turn;
 mod unread;
 mod writer_sink;
