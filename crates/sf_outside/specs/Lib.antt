@@ -7,3 +7,4 @@ pub mod Untouched
 pub mod Fixed
 pub mod Log
 pub mod Unread
+pub mod System

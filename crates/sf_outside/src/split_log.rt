@@ -4,10 +4,11 @@ ghost use Rattle.std.specs.Io.KnownBytes.{Keeps};
 ghost use Rattle.sf_outside.specs.Log.{known, TakesFirst, FindsRecord};
 
 use crate::front::{Front, front_of};
+use crate::system::fault_of;
 use crate::unread::Unread;
 use crate::{Fault, IngressRecord};
 use std::alloc::Global;
-use std::io::{ErrorKind, Read, Seek, SeekFrom};
+use std::io::{Read, Seek, SeekFrom};
 
 /// The log of one split. It goes on from where the last read ended.
 #[derive(Drop)]
@@ -65,8 +66,7 @@ impl<F: Read + Seek> SplitLog<F> {
                 self.next = 0;
                 Ok(())
             }
-            Err(error) if error.kind() == ErrorKind::OutOfMemory => Err(Fault::OutOfMemory),
-            Err(_) => Err(Fault::Failed),
+            Err(error) => Err(fault_of(error.kind())),
         }
     }
 }

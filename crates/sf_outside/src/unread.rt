@@ -5,6 +5,7 @@ ghost use Rattle.std.specs.Io.KnownBytes.{Keeps, ReadConsumes};
 ghost use Rattle.sf_outside.specs.Unread.{AreAdded};
 
 use crate::Fault;
+use crate::system::fault_of;
 use std::alloc::Global;
 use std::io;
 use std::io::{ErrorKind, Read};
@@ -84,8 +85,7 @@ fn read_behind<F: Read>(bytes: &mut Vec<u8>, file: &mut F) -> Result<usize, Faul
     let mut chunk = [0; CHUNK];
     let count = match read_some(file, &mut chunk) {
         Ok(count) => count,
-        Err(error) if error.kind() == ErrorKind::OutOfMemory => return Err(Fault::OutOfMemory),
-        Err(_) => return Err(Fault::Failed),
+        Err(error) => return Err(fault_of(error.kind())),
     };
     let (read, _) = chunk.split_at(count);
     match bytes.extend_from_slice(read) {
