@@ -33,3 +33,6 @@ pub use script_link::ScriptLink;
 pub use sink::Sink;
 pub use turn::Turn;
 pub use writer_sink::WriterSink;
+
+#[cfg(test)]
+mod tests;
