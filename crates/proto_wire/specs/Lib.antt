@@ -1,0 +1,5 @@
+pub mod Reads
+pub mod Varint
+pub mod Record
+pub mod Seen
+pub mod Message
