@@ -124,6 +124,10 @@ messages blank rows field get put = record { field = field; wire = 2; enters = �
 abbrev pub lists : {M N : Type 0} → N → List (Row N) → ℕ → (M → List N) → (M → List N → M) → Row M
 lists blank rows field get put = record { field = field; wire = 2; enters = λ value item. appended blank rows (get value) item >>= λ next. Ok (put value next); spells = λ value. spelled_messages rows field (get value) }
 
+-- a member of a oneof: it goes on from itself where it stands, and takes the place of another one
+abbrev pub members : {M N : Type 0} → N → List (Row N) → ℕ → (M → Option N) → (M → N → M) → Row M
+members blank rows field get put = record { field = field; wire = 2; enters = λ value item. joined blank rows (get value) item >>= λ next. Ok (put value next); spells = λ value. spelled_message rows field (get value) }
+
 -- a length, or 2 ^ 64 - 1 where it is greater
 abbrev pub capped : ℕ → ℕ
 capped len = min len (2 ^ 64 - 1)

@@ -3,7 +3,7 @@ ghost use Rattle.std.specs.Prelude.{◌≡◌, ◌++◌, ◌∷◌, [], List, So
 ghost use Rattle.std.specs.Str.{is_utf8};
 ghost use Rattle.proto_wire.specs.Reads.{Gives, Changes};
 ghost use Rattle.proto_wire.specs.Seen.{item_of};
-ghost use Rattle.proto_wire.specs.Message.{belongs, text_of, enum_of, long_of, bool_of, short_of, entered, appended};
+ghost use Rattle.proto_wire.specs.Message.{belongs, text_of, enum_of, long_of, bool_of, short_of, joined, entered, appended};
 
 use crate::message::{Message, merge};
 use crate::varint::place;
@@ -83,6 +83,22 @@ fn utf8(bytes: &[u8]) -> Option<&str>
     }
 }
 
+/// The message that stands, or the blank one, with the payload in it.
+pub fn joined<M: Message>(
+    alloc: Global,
+    held: Option<M>,
+    item: &Record<'_>,
+) -> Result<M, DecodeFault>
+    ensures { Gives (λ message. message) result (joined M.empty M.rows held (item_of item.now)) }
+{
+    let mut message = match held {
+        Some(message) => message,
+        None => M::blank(alloc),
+    };
+    merge(alloc, &mut message, item.end, item.payload)?;
+    Ok(message)
+}
+
 /// Takes the payload into the message that stands, or into the blank one. After an `Err` the slot is of no further use.
 pub fn join<M: Message>(
     alloc: Global,
@@ -91,12 +107,7 @@ pub fn join<M: Message>(
 ) -> Result<(), DecodeFault>
     ensures { Changes result slot.new (entered M.empty M.rows slot.old (item_of item.now)) }
 {
-    let mut message = match slot.take() {
-        Some(message) => message,
-        None => M::blank(alloc),
-    };
-    merge(alloc, &mut message, item.end, item.payload)?;
-    *slot = Some(message);
+    *slot = Some(joined(alloc, slot.take(), item)?);
     Ok(())
 }
 

@@ -15,7 +15,7 @@ mod varint;
 
 pub use bytes::Bytes;
 pub use fault::{DecodeFault, WireFault, WireKind};
-pub use field::{append, join};
+pub use field::{append, join, joined};
 pub use list::List;
 pub use memory::{Mem, OutOfMemory, Same, TryClone};
 pub use message::{Message, merge};
