@@ -15,7 +15,7 @@ pub record Row (M : Type 0) : Type 0 where
   pub spells : M → List ℕ
 
 -- the record is of this field
-abbrev pub belongs : ℕ → ℕ → Item → Bool
+unfoldable pub belongs : ℕ → ℕ → Item → Bool
 belongs field wire item = (item.field == field) && (item.wire == wire)
 
 -- a record enters by its row, and is passed over where it has none
@@ -40,59 +40,59 @@ spelling (row ∷ rows) value = row.spells value ++ spelling rows value
 
 -- ---- how a record enters
 
-abbrev pub text_of : Item → Result (List ℕ) WireFault
+unfoldable pub text_of : Item → Result (List ℕ) WireFault
 text_of item = if is_utf8 item.payload then Ok item.payload else fault NotUtf8 item.end item.payload
 
 -- an enum: the low 32 bits, signed
-abbrev pub enum_of : Item → ℤ
+unfoldable pub enum_of : Item → ℤ
 enum_of item = cast_signed w32 (item.number % 2 ^ 32)
 
-abbrev pub long_of : Item → ℤ
+unfoldable pub long_of : Item → ℤ
 long_of item = cast_signed w64 item.number
 
-abbrev pub bool_of : Item → Bool
+unfoldable pub bool_of : Item → Bool
 bool_of item = not (item.number == 0)
 
 -- a number of 32 bits
-abbrev pub short_of : Item → Result ℕ WireFault
+unfoldable pub short_of : Item → Result ℕ WireFault
 short_of item = if nat_lt item.number (2 ^ 32) then Ok item.number else fault OverLimit item.end item.payload
 
 -- the value that the payload makes of the one that stands, or of the blank one
-abbrev pub joined : {M : Type 0} → M → List (Row M) → Option M → Item → Result M WireFault
+unfoldable pub joined : {M : Type 0} → M → List (Row M) → Option M → Item → Result M WireFault
 joined blank rows None item = value_in rows blank item.end item.payload
 joined blank rows (Some value) item = value_in rows value item.end item.payload
 
 -- the one that stands, or none, with the payload in it
-abbrev pub entered : {M : Type 0} → M → List (Row M) → Option M → Item → Result (Option M) WireFault
+unfoldable pub entered : {M : Type 0} → M → List (Row M) → Option M → Item → Result (Option M) WireFault
 entered blank rows value item = joined blank rows value item >>= λ next. Ok (Some next)
 
 -- the list, and the message of the payload behind it
-abbrev pub appended : {M : Type 0} → M → List (Row M) → List M → Item → Result (List M) WireFault
+unfoldable pub appended : {M : Type 0} → M → List (Row M) → List M → Item → Result (List M) WireFault
 appended blank rows values item = value_in rows blank item.end item.payload >>= λ next. Ok (values ++ next ∷ [])
 
 -- ---- how a field is spelled
 
 -- bytes, where there are any
-abbrev pub spelled_bytes : ℕ → List ℕ → List ℕ
+unfoldable pub spelled_bytes : ℕ → List ℕ → List ℕ
 spelled_bytes field [] = []
 spelled_bytes field (b ∷ bytes) = bytes_record field (b ∷ bytes)
 
-abbrev pub spelled_number : ℕ → ℕ → List ℕ
+unfoldable pub spelled_number : ℕ → ℕ → List ℕ
 spelled_number field number = if number == 0 then [] else number_record field number
 
-abbrev pub spelled_bool : ℕ → Bool → List ℕ
+unfoldable pub spelled_bool : ℕ → Bool → List ℕ
 spelled_bool field false = []
 spelled_bool field true = number_record field 1
 
 -- a number below 0 is spelled as its 64 bits
-abbrev pub spelled_signed : ℕ → ℤ → List ℕ
+unfoldable pub spelled_signed : ℕ → ℤ → List ℕ
 spelled_signed field number = spelled_number field (cast_unsigned w64 number)
 
-abbrev pub spelled_message : {M : Type 0} → List (Row M) → ℕ → Option M → List ℕ
+unfoldable pub spelled_message : {M : Type 0} → List (Row M) → ℕ → Option M → List ℕ
 spelled_message rows field None = []
 spelled_message rows field (Some value) = bytes_record field (spelling rows value)
 
-abbrev pub spelled_messages : {M : Type 0} → List (Row M) → ℕ → List M → List ℕ
+unfoldable pub spelled_messages : {M : Type 0} → List (Row M) → ℕ → List M → List ℕ
 spelled_messages rows field [] = []
 spelled_messages rows field (value ∷ values) = bytes_record field (spelling rows value) ++ spelled_messages rows field values
 

@@ -12,6 +12,7 @@ use std::alloc::Global;
 
 impl Record<'_> {
     /// Whether the record is of the field with this number and wire type.
+    #[tactic(auto, unfolding(crate::specs::Message::belongs))]
     pub fn is(&self, field: u32, wire: u8) -> bool
         ensures { result ≡ belongs field wire (item_of self.now) }
     {
@@ -19,6 +20,7 @@ impl Record<'_> {
     }
 
     /// The payload as a text. The fault is NotUtf8, at the first byte of the payload.
+    #[tactic(auto, unfolding(crate::specs::Message::text_of))]
     pub fn text(&self, alloc: Global) -> Result<Text, DecodeFault>
         ensures { Gives (λ text. text) result (text_of (item_of self.now)) }
     {
@@ -39,6 +41,7 @@ impl Record<'_> {
     }
 
     /// The number as a bool: true where it is not 0.
+    #[tactic(auto, unfolding(crate::specs::Message::bool_of))]
     pub fn bool(&self) -> bool
         ensures { result ≡ bool_of (item_of self.now) }
     {
@@ -46,6 +49,7 @@ impl Record<'_> {
     }
 
     /// The number as an enum: its low 32 bits, signed.
+    #[tactic(auto, unfolding(crate::specs::Message::enum_of))]
     pub fn enumerated(&self) -> i32
         ensures { result ≡ enum_of (item_of self.now) }
     {
@@ -53,6 +57,7 @@ impl Record<'_> {
     }
 
     /// The number as 64 bits, signed.
+    #[tactic(auto, unfolding(crate::specs::Message::long_of))]
     pub fn long(&self) -> i64
         ensures { result ≡ long_of (item_of self.now) }
     {
@@ -60,6 +65,7 @@ impl Record<'_> {
     }
 
     /// The number as 32 bits. The fault is OverLimit, at the first byte of the number.
+    #[tactic(auto, unfolding(crate::specs::Message::short_of))]
     pub fn short(&self) -> Result<u32, DecodeFault>
         ensures { Gives (λ number. number) result (short_of (item_of self.now)) }
     {
@@ -84,6 +90,7 @@ fn utf8(bytes: &[u8]) -> Option<&str>
 }
 
 /// The message that stands, or the blank one, with the payload in it.
+#[tactic(auto, unfolding(crate::specs::Message::joined))]
 pub fn joined<M: Message>(
     alloc: Global,
     held: Option<M>,
@@ -100,6 +107,7 @@ pub fn joined<M: Message>(
 }
 
 /// Takes the payload into the message that stands, or into the blank one. After an `Err` the slot is of no further use.
+#[tactic(auto, unfolding(crate::specs::Message::entered))]
 pub fn join<M: Message>(
     alloc: Global,
     slot: &mut Option<M>,
@@ -112,6 +120,7 @@ pub fn join<M: Message>(
 }
 
 /// Adds the message of the payload to the list. An `Err` changes nothing.
+#[tactic(auto, unfolding(crate::specs::Message::appended))]
 pub fn append<M: Message>(
     alloc: Global,
     list: &mut List<M>,

@@ -48,6 +48,7 @@ fn with_record(mut into: Bytes, field: u32, payload: &[u8]) -> Mem<Bytes>
 }
 
 /// Adds bytes or a text, where there are any.
+#[tactic(auto, unfolding(crate::specs::Message::spelled_bytes))]
 pub fn with_bytes(into: Bytes, field: u32, payload: &[u8]) -> Mem<Bytes>
     ensures { IfOk result (λ bytes. bytes ≡ into ++ spelled_bytes field payload.now) }
 {
@@ -58,6 +59,7 @@ pub fn with_bytes(into: Bytes, field: u32, payload: &[u8]) -> Mem<Bytes>
 }
 
 /// Adds a number, where it is not 0.
+#[tactic(auto, unfolding(crate::specs::Message::spelled_number))]
 pub fn with_number(into: Bytes, field: u32, number: u64) -> Mem<Bytes>
     ensures { IfOk result (λ bytes. bytes ≡ into ++ spelled_number field number) }
 {
@@ -69,6 +71,7 @@ pub fn with_number(into: Bytes, field: u32, number: u64) -> Mem<Bytes>
 }
 
 /// Adds a bool, where it is true.
+#[tactic(auto, unfolding(crate::specs::Message::spelled_bool))]
 pub fn with_bool(into: Bytes, field: u32, value: bool) -> Mem<Bytes>
     ensures { IfOk result (λ bytes. bytes ≡ into ++ spelled_bool field value) }
 {
@@ -80,6 +83,7 @@ pub fn with_bool(into: Bytes, field: u32, value: bool) -> Mem<Bytes>
 }
 
 /// Adds an enum or a signed number, where it is not 0.
+#[tactic(auto, unfolding(crate::specs::Message::spelled_signed))]
 pub fn with_signed(into: Bytes, field: u32, number: i64) -> Mem<Bytes>
     ensures { IfOk result (λ bytes. bytes ≡ into ++ spelled_signed field number) }
 {
@@ -100,6 +104,7 @@ pub fn with_member<M: Message>(into: Bytes, field: u32, message: &M) -> Mem<Byte
 }
 
 /// Adds a message, where there is one.
+#[tactic(auto, unfolding(crate::specs::Message::spelled_message))]
 pub fn with_message<M: Message>(into: Bytes, field: u32, message: &Option<M>) -> Mem<Bytes>
     ensures { IfOk result (λ bytes. bytes ≡ into ++ spelled_message M.rows field message.now) }
 {
@@ -110,6 +115,7 @@ pub fn with_message<M: Message>(into: Bytes, field: u32, message: &Option<M>) ->
 }
 
 /// Adds each message of a list, in order.
+#[tactic(auto, unfolding(crate::specs::Message::spelled_messages))]
 pub fn with_messages<M: Message>(into: Bytes, field: u32, messages: &[M]) -> Mem<Bytes>
     ensures { IfOk result (λ bytes. bytes ≡ into ++ spelled_messages M.rows field messages.now) }
 {
@@ -138,6 +144,7 @@ fn record_size(field: u32, len: u64) -> u64
 }
 
 /// The length of what `with_bytes` adds, or `u64::MAX` where it is greater.
+#[tactic(auto, unfolding(crate::specs::Message::spelled_bytes))]
 pub fn bytes_size(field: u32, payload: &[u8]) -> u64
     ensures { result ≡ capped (length (spelled_bytes field payload.now)) }
 {
@@ -148,6 +155,7 @@ pub fn bytes_size(field: u32, payload: &[u8]) -> u64
 }
 
 /// The length of what `with_number` adds.
+#[tactic(auto, unfolding(crate::specs::Message::spelled_number))]
 pub fn number_size(field: u32, number: u64) -> u64
     ensures size { result ≡ length (spelled_number field number) }
     ensures most { result ≤ 20 }
@@ -159,6 +167,7 @@ pub fn number_size(field: u32, number: u64) -> u64
 }
 
 /// The length of what `with_bool` adds.
+#[tactic(auto, unfolding(crate::specs::Message::spelled_bool))]
 pub fn bool_size(field: u32, value: bool) -> u64
     ensures size { result ≡ length (spelled_bool field value) }
     ensures most { result ≤ 20 }
@@ -170,6 +179,7 @@ pub fn bool_size(field: u32, value: bool) -> u64
 }
 
 /// The length of what `with_signed` adds.
+#[tactic(auto, unfolding(crate::specs::Message::spelled_signed))]
 pub fn signed_size(field: u32, number: i64) -> u64
     ensures size { result ≡ length (spelled_signed field number) }
     ensures most { result ≤ 20 }
@@ -185,6 +195,7 @@ pub fn member_size<M: Message>(field: u32, message: &M) -> u64
 }
 
 /// The length of what `with_message` adds, or `u64::MAX` where it is greater.
+#[tactic(auto, unfolding(crate::specs::Message::spelled_message))]
 pub fn message_size<M: Message>(field: u32, message: &Option<M>) -> u64
     ensures { result ≡ capped (length (spelled_message M.rows field message.now)) }
 {
@@ -195,6 +206,7 @@ pub fn message_size<M: Message>(field: u32, message: &Option<M>) -> u64
 }
 
 /// The length of what `with_messages` adds, or `u64::MAX` where it is greater.
+#[tactic(auto, unfolding(crate::specs::Message::spelled_messages))]
 pub fn messages_size<M: Message>(field: u32, messages: &[M]) -> u64
     ensures { result ≡ capped (length (spelled_messages M.rows field messages.now)) }
 {

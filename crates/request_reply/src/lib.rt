@@ -2,8 +2,12 @@
 #![tactic(auto)]
 
 mod answer;
+mod answer_messages;
 mod flaw;
+mod judging;
 mod request;
+mod request_messages;
+mod whole;
 
 pub use answer::{
     DelayedInvocation, EgressMessage, ExpirationSpec, FromFunction, IncompleteInvocationContext,
@@ -11,3 +15,5 @@ pub use answer::{
 };
 pub use flaw::{Flaw, FlawKind, Reason};
 pub use request::{BatchInvocation, InvocationBatchRequest, PersistedValue, ToFunction};
+pub use judging::{ANSWER_LIMIT, Judged};
+pub use whole::{decode_from, decode_to, encode_from, encode_to, size_from, size_to};
