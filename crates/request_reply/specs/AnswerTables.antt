@@ -1,6 +1,6 @@
 -- The fields of an answer's messages.
-use Rattle.std.specs.Prelude.{ℕ, false, pos, List, [], ◌∷◌, None, Some, Option}
-use Rattle.proto_wire.specs.Message.{Row, texts, bools, enums, longs, messages, lists, members}
+use Rattle.std.specs.Prelude.{false, pos, List, [], ◌∷◌, None}
+use Rattle.proto_wire.specs.Message.{Row, texts, bools, enums, longs, messages, lists}
 use Rattle.typed_values.specs.Tables.{empty_address, address_rows, empty_value, value_rows}
 use Rattle.request_reply.specs.declared.answer.PersistedValueMutation.{PersistedValueMutation}
 use Rattle.request_reply.specs.declared.answer.OutgoingInvocation.{OutgoingInvocation}

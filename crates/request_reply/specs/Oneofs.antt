@@ -1,5 +1,5 @@
 -- The requests and the answers whole: a oneof each.
-use Rattle.std.specs.Prelude.{ℕ, List, [], ◌∷◌, Option, None, Some}
+use Rattle.std.specs.Prelude.{List, [], ◌∷◌, Option, None, Some}
 use Rattle.proto_wire.specs.Message.{Row, members}
 use Rattle.request_reply.specs.declared.request.ToFunction.{ToFunction}
 use Rattle.request_reply.specs.declared.request.ToFunction.TheVariants.{Invocation}

@@ -1,6 +1,6 @@
 -- Which answers are valid. At this stage an answer is valid where it is short enough, is the canonical spelling of a result that neither changes state nor sends
 -- messages, and names only egresses that there are.
-use Rattle.std.specs.Prelude.{ℕ, zero, suc, ◌+◌, Bool, true, false, List, [], ◌∷◌, length, Option, None, Some, Result, Ok, Err, nat_lt, ◌&&◌, if◌then◌else◌}
+use Rattle.std.specs.Prelude.{ℕ, ◌+◌, Bool, true, false, List, [], ◌∷◌, length, Option, None, Some, Result, Ok, Err, nat_lt, ◌&&◌, if◌then◌else◌}
 use Rattle.std.specs.Str.{bytes_eq}
 use Rattle.proto_wire.specs.declared.fault.WireFault.{WireFault}
 use Rattle.typed_values.specs.declared.name.TypeName.{TypeName}
@@ -8,7 +8,6 @@ use Rattle.request_reply.specs.declared.answer.FromFunction.{FromFunction}
 use Rattle.request_reply.specs.declared.answer.FromFunction.TheVariants as answers
 use Rattle.request_reply.specs.declared.answer.InvocationResponse.{InvocationResponse}
 use Rattle.request_reply.specs.declared.answer.EgressMessage.{EgressMessage}
-use Rattle.request_reply.specs.declared.flaw.Flaw.{Flaw}
 use Rattle.request_reply.specs.declared.flaw.FlawKind.TheVariants.{NotBuilt, UnknownEgress}
 use Rattle.request_reply.specs.declared.judging.Judged.{Judged}
 use Rattle.request_reply.specs.declared.judging.Judged.TheVariants as judged
@@ -48,8 +47,8 @@ judged_answer egresses bytes (Err e) = flaw_not_built
 judged_answer egresses bytes (Ok (answers.Incomplete context)) = flaw_not_built
 judged_answer egresses bytes (Ok (answers.Result response)) =
     if bytes_eq (from_spelling (answers.Result response)) bytes && has_egresses_alone response
-      then judged_egresses response (first_unknown egresses 0 response.outgoing_egresses)
-      else flaw_not_built
+    then judged_egresses response (first_unknown egresses 0 response.outgoing_egresses)
+    else flaw_not_built
 
 -- what an answer is: accepted, or its first flaw
 unfoldable pub verdict : List TypeName → List ℕ → Judged

@@ -2,9 +2,14 @@
 ghost use Rattle.std.specs.Prelude.{◌≡◌, ◌++◌, length, IfOk};
 ghost use Rattle.request_reply.specs.AnswerTables.{empty_mutation, mutation_rows, empty_outgoing, outgoing_rows, empty_delayed, delayed_rows, empty_egress_message, egress_message_rows, empty_response, response_rows, empty_expiration, expiration_rows, empty_value_spec, value_spec_rows, empty_context, context_rows};
 
-use crate::{DelayedInvocation, EgressMessage, ExpirationSpec, IncompleteInvocationContext, InvocationResponse, OutgoingInvocation, PersistedValueMutation, PersistedValueSpec};
+use crate::{
+    DelayedInvocation, EgressMessage, ExpirationSpec, IncompleteInvocationContext,
+    InvocationResponse, OutgoingInvocation, PersistedValueMutation, PersistedValueSpec,
+};
 use proto_wire::{
-    Bytes, DecodeFault, List, Mem, Message, Record, Text, append, bool_size, bytes_size, join, message_size, messages_size, signed_size, with_bool, with_bytes, with_message, with_messages, with_signed,
+    Bytes, DecodeFault, List, Mem, Message, Record, Text, append, bool_size, bytes_size, join,
+    message_size, messages_size, signed_size, with_bool, with_bytes, with_message, with_messages,
+    with_signed,
 };
 use std::alloc::Global;
 
@@ -74,8 +79,7 @@ impl Message for OutgoingInvocation {
 
     #[tactic(auto, unfolding(crate::specs::AnswerTables::outgoing_rows))]
     fn size(&self) -> u64 {
-        message_size(1, &self.target)
-            .saturating_add(message_size(2, &self.argument))
+        message_size(1, &self.target).saturating_add(message_size(2, &self.argument))
     }
 
     #[tactic(auto, unfolding(crate::specs::AnswerTables::outgoing_rows))]
@@ -248,8 +252,10 @@ impl Message for ExpirationSpec {
 
     #[tactic(auto, unfolding(crate::specs::AnswerTables::expiration_rows))]
     fn size(&self) -> u64 {
-        signed_size(1, i64::from(self.mode))
-            .saturating_add(signed_size(2, self.expire_after_millis))
+        signed_size(1, i64::from(self.mode)).saturating_add(signed_size(
+            2,
+            self.expire_after_millis,
+        ))
     }
 
     #[tactic(auto, using(crate::proofs::Signed::signed), unfolding(crate::specs::AnswerTables::expiration_rows))]

@@ -14,6 +14,6 @@ pub use answer::{
     InvocationResponse, OutgoingInvocation, PersistedValueMutation, PersistedValueSpec,
 };
 pub use flaw::{Flaw, FlawKind, Reason};
+pub use judging::{ANSWER_LIMIT, Judged, judge};
 pub use request::{BatchInvocation, InvocationBatchRequest, PersistedValue, ToFunction};
-pub use judging::{ANSWER_LIMIT, Judged};
 pub use whole::{decode_from, decode_to, encode_from, encode_to, size_from, size_to};

@@ -4,7 +4,8 @@ ghost use Rattle.request_reply.specs.RequestTables.{empty_persisted_value, persi
 
 use crate::{BatchInvocation, InvocationBatchRequest, PersistedValue};
 use proto_wire::{
-    Bytes, DecodeFault, List, Mem, Message, Record, Text, append, bytes_size, join, message_size, messages_size, with_bytes, with_message, with_messages,
+    Bytes, DecodeFault, List, Mem, Message, Record, Text, append, bytes_size, join, message_size,
+    messages_size, with_bytes, with_message, with_messages,
 };
 use std::alloc::Global;
 
@@ -33,8 +34,7 @@ impl Message for PersistedValue {
 
     #[tactic(auto, unfolding(crate::specs::RequestTables::persisted_value_rows))]
     fn size(&self) -> u64 {
-        bytes_size(1, self.state_name.as_bytes())
-            .saturating_add(message_size(2, &self.state_value))
+        bytes_size(1, self.state_name.as_bytes()).saturating_add(message_size(2, &self.state_value))
     }
 
     #[tactic(auto, unfolding(crate::specs::RequestTables::persisted_value_rows))]
@@ -69,8 +69,7 @@ impl Message for BatchInvocation {
 
     #[tactic(auto, unfolding(crate::specs::RequestTables::batch_invocation_rows))]
     fn size(&self) -> u64 {
-        message_size(1, &self.caller)
-            .saturating_add(message_size(2, &self.argument))
+        message_size(1, &self.caller).saturating_add(message_size(2, &self.argument))
     }
 
     #[tactic(auto, unfolding(crate::specs::RequestTables::batch_invocation_rows))]

@@ -1,7 +1,6 @@
-use Rattle.std.proofs.Common.{◌≡◌, append_assoc, arith}
+use Rattle.std.proofs.Common.{append_assoc, arith}
 use Rattle.std.proofs.lemmas.List.{append-nil}
 use Rattle.std.proofs.lemmas.Int.{to_z-of_z}
-use Rattle.std.specs.Int.{w64}
 use Rattle.request_reply.specs.AnswerTables.{delayed_rows}
 use Rattle.request_reply.proofs.answer_messages.DelayedInvocationMessage.put.Goals as goal
 
