@@ -1,5 +1,5 @@
 -- Messages as tables of fields (Protocol Buffers encoding guide).
-use Rattle.std.specs.Prelude.{ℕ, ◌%◌, ◌^◌, ◌-◌, min, ℤ, Bool, true, false, not, List, [], ◌∷◌, ◌++◌, Option, Some, None, Result, Ok, Err, nat_lt, ◌==◌, ◌&&◌, if◌then◌else◌}
+use Rattle.std.specs.Prelude.{ℕ, ◌%◌, ◌^◌, ◌-◌, min, ℤ, pos, negsuc, Bool, true, false, not, List, [], ◌∷◌, ◌++◌, Option, Some, None, Result, Ok, Err, nat_lt, ◌==◌, ◌&&◌, if◌then◌else◌}
 use Rattle.std.specs.Int.{w32, w64, cast_signed, cast_unsigned}
 use Rattle.std.specs.Str.{is_utf8}
 use Rattle.proto_wire.specs.declared.fault.WireFault.{WireFault}
@@ -7,12 +7,13 @@ use Rattle.proto_wire.specs.declared.fault.WireKind.TheVariants.{NotUtf8, OverLi
 use Rattle.proto_wire.specs.Varint.{◌>>=◌, fault}
 use Rattle.proto_wire.specs.Record.{Item, Scan, Whole, Broken, Then, records_in, number_record, bytes_record}
 
--- one field of a message: its number, its wire type, how a record of it enters the value, and how it is spelled
+-- one field of a message: its number, its wire type, how a record of it enters the value, how it is spelled, and whether what it holds has a spelling
 pub record Row (M : Type 0) : Type 0 where
   pub field : ℕ
   pub wire : ℕ
   pub enters : M → Item → Result M WireFault
   pub spells : M → List ℕ
+  pub fits : M → Bool
 
 -- the record is of this field
 unfoldable pub belongs : ℕ → ℕ → Item → Bool
@@ -37,6 +38,11 @@ value_in rows value end bytes = merged rows value (records_in end bytes)
 abbrev pub spelling : {M : Type 0} → List (Row M) → M → List ℕ
 spelling [] value = []
 spelling (row ∷ rows) value = row.spells value ++ spelling rows value
+
+-- each field holds what has a spelling
+abbrev pub fit : {M : Type 0} → List (Row M) → M → Bool
+fit [] value = true
+fit (row ∷ rows) value = row.fits value && fit rows value
 
 -- ---- how a record enters
 
@@ -96,37 +102,52 @@ unfoldable pub spelled_messages : {M : Type 0} → List (Row M) → ℕ → List
 spelled_messages rows field [] = []
 spelled_messages rows field (value ∷ values) = bytes_record field (spelling rows value) ++ spelled_messages rows field values
 
+-- ---- what has a spelling: texts in UTF-8, numbers of their types, and messages of such fields
+
+-- the number is one of the signed type that has so many bits beside the sign
+unfoldable pub fits_signed : ℕ → ℤ → Bool
+fits_signed bits (pos n) = nat_lt n (2 ^ bits)
+fits_signed bits (negsuc n) = nat_lt n (2 ^ bits)
+
+unfoldable pub fit_message : {M : Type 0} → List (Row M) → Option M → Bool
+fit_message rows None = true
+fit_message rows (Some value) = fit rows value
+
+unfoldable pub fit_messages : {M : Type 0} → List (Row M) → List M → Bool
+fit_messages rows [] = true
+fit_messages rows (value ∷ values) = fit rows value && fit_messages rows values
+
 -- ---- the kinds of fields: `put value x` is the value with x in the field
 
 abbrev pub texts : {M : Type 0} → ℕ → (M → List ℕ) → (M → List ℕ → M) → Row M
-texts field get put = record { field = field; wire = 2; enters = λ value item. text_of item >>= λ text. Ok (put value text); spells = λ value. spelled_bytes field (get value) }
+texts field get put = record { field = field; wire = 2; enters = λ value item. text_of item >>= λ text. Ok (put value text); spells = λ value. spelled_bytes field (get value); fits = λ value. is_utf8 (get value) }
 
 abbrev pub bytes : {M : Type 0} → ℕ → (M → List ℕ) → (M → List ℕ → M) → Row M
-bytes field get put = record { field = field; wire = 2; enters = λ value item. Ok (put value item.payload); spells = λ value. spelled_bytes field (get value) }
+bytes field get put = record { field = field; wire = 2; enters = λ value item. Ok (put value item.payload); spells = λ value. spelled_bytes field (get value); fits = λ value. true }
 
 abbrev pub bools : {M : Type 0} → ℕ → (M → Bool) → (M → Bool → M) → Row M
-bools field get put = record { field = field; wire = 0; enters = λ value item. Ok (put value (bool_of item)); spells = λ value. spelled_bool field (get value) }
+bools field get put = record { field = field; wire = 0; enters = λ value item. Ok (put value (bool_of item)); spells = λ value. spelled_bool field (get value); fits = λ value. true }
 
 abbrev pub enums : {M : Type 0} → ℕ → (M → ℤ) → (M → ℤ → M) → Row M
-enums field get put = record { field = field; wire = 0; enters = λ value item. Ok (put value (enum_of item)); spells = λ value. spelled_signed field (get value) }
+enums field get put = record { field = field; wire = 0; enters = λ value item. Ok (put value (enum_of item)); spells = λ value. spelled_signed field (get value); fits = λ value. fits_signed 31 (get value) }
 
 abbrev pub longs : {M : Type 0} → ℕ → (M → ℤ) → (M → ℤ → M) → Row M
-longs field get put = record { field = field; wire = 0; enters = λ value item. Ok (put value (long_of item)); spells = λ value. spelled_signed field (get value) }
+longs field get put = record { field = field; wire = 0; enters = λ value item. Ok (put value (long_of item)); spells = λ value. spelled_signed field (get value); fits = λ value. fits_signed 63 (get value) }
 
 abbrev pub numbers : {M : Type 0} → ℕ → (M → ℕ) → (M → ℕ → M) → Row M
-numbers field get put = record { field = field; wire = 0; enters = λ value item. Ok (put value item.number); spells = λ value. spelled_number field (get value) }
+numbers field get put = record { field = field; wire = 0; enters = λ value item. Ok (put value item.number); spells = λ value. spelled_number field (get value); fits = λ value. nat_lt (get value) (2 ^ 64) }
 
 -- a message is there once: a further record goes on from the value that stands
 abbrev pub messages : {M N : Type 0} → N → List (Row N) → ℕ → (M → Option N) → (M → Option N → M) → Row M
-messages blank rows field get put = record { field = field; wire = 2; enters = λ value item. entered blank rows (get value) item >>= λ next. Ok (put value next); spells = λ value. spelled_message rows field (get value) }
+messages blank rows field get put = record { field = field; wire = 2; enters = λ value item. entered blank rows (get value) item >>= λ next. Ok (put value next); spells = λ value. spelled_message rows field (get value); fits = λ value. fit_message rows (get value) }
 
 -- each record is one more message of the list
 abbrev pub lists : {M N : Type 0} → N → List (Row N) → ℕ → (M → List N) → (M → List N → M) → Row M
-lists blank rows field get put = record { field = field; wire = 2; enters = λ value item. appended blank rows (get value) item >>= λ next. Ok (put value next); spells = λ value. spelled_messages rows field (get value) }
+lists blank rows field get put = record { field = field; wire = 2; enters = λ value item. appended blank rows (get value) item >>= λ next. Ok (put value next); spells = λ value. spelled_messages rows field (get value); fits = λ value. fit_messages rows (get value) }
 
 -- a member of a oneof: it goes on from itself where it stands, and takes the place of another one
 abbrev pub members : {M N : Type 0} → N → List (Row N) → ℕ → (M → Option N) → (M → N → M) → Row M
-members blank rows field get put = record { field = field; wire = 2; enters = λ value item. joined blank rows (get value) item >>= λ next. Ok (put value next); spells = λ value. spelled_message rows field (get value) }
+members blank rows field get put = record { field = field; wire = 2; enters = λ value item. joined blank rows (get value) item >>= λ next. Ok (put value next); spells = λ value. spelled_message rows field (get value); fits = λ value. fit_message rows (get value) }
 
 -- a length, or 2 ^ 64 - 1 where it is greater
 abbrev pub capped : ℕ → ℕ

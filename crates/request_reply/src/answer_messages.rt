@@ -8,8 +8,8 @@ use crate::{
 };
 use proto_wire::{
     Bytes, DecodeFault, List, Mem, Message, Record, Text, append, bool_size, bytes_size, join,
-    message_size, messages_size, signed_size, with_bool, with_bytes, with_message, with_messages,
-    with_signed,
+    message_size, messages_size, signed_size, with_bool, with_enum, with_long, with_message,
+    with_messages, with_text,
 };
 use std::alloc::Global;
 
@@ -48,8 +48,8 @@ impl Message for PersistedValueMutation {
 
     #[tactic(auto, using(crate::proofs::Signed::signed), unfolding(crate::specs::AnswerTables::mutation_rows))]
     fn put(&self, into: Bytes) -> Mem<Bytes> {
-        let into = with_signed(into, 1, i64::from(self.mutation_type))?;
-        let into = with_bytes(into, 2, self.state_name.as_bytes())?;
+        let into = with_enum(into, 1, self.mutation_type)?;
+        let into = with_text(into, 2, &self.state_name)?;
         with_message(into, 3, &self.state_value)
     }
 }
@@ -132,11 +132,11 @@ impl Message for DelayedInvocation {
 
     #[tactic(auto, using(crate::proofs::Signed::signed), unfolding(crate::specs::AnswerTables::delayed_rows))]
     fn put(&self, into: Bytes) -> Mem<Bytes> {
-        let into = with_signed(into, 1, self.delay_in_ms)?;
+        let into = with_long(into, 1, self.delay_in_ms)?;
         let into = with_message(into, 2, &self.target)?;
         let into = with_message(into, 3, &self.argument)?;
         let into = with_bool(into, 10, self.is_cancellation_request)?;
-        with_bytes(into, 11, self.cancellation_token.as_bytes())
+        with_text(into, 11, &self.cancellation_token)
     }
 }
 
@@ -175,8 +175,8 @@ impl Message for EgressMessage {
 
     #[tactic(auto, unfolding(crate::specs::AnswerTables::egress_message_rows))]
     fn put(&self, into: Bytes) -> Mem<Bytes> {
-        let into = with_bytes(into, 1, self.egress_namespace.as_bytes())?;
-        let into = with_bytes(into, 2, self.egress_type.as_bytes())?;
+        let into = with_text(into, 1, &self.egress_namespace)?;
+        let into = with_text(into, 2, &self.egress_type)?;
         with_message(into, 3, &self.argument)
     }
 }
@@ -260,8 +260,8 @@ impl Message for ExpirationSpec {
 
     #[tactic(auto, using(crate::proofs::Signed::signed), unfolding(crate::specs::AnswerTables::expiration_rows))]
     fn put(&self, into: Bytes) -> Mem<Bytes> {
-        let into = with_signed(into, 1, i64::from(self.mode))?;
-        with_signed(into, 2, self.expire_after_millis)
+        let into = with_enum(into, 1, self.mode)?;
+        with_long(into, 2, self.expire_after_millis)
     }
 }
 
@@ -300,9 +300,9 @@ impl Message for PersistedValueSpec {
 
     #[tactic(auto, unfolding(crate::specs::AnswerTables::value_spec_rows))]
     fn put(&self, into: Bytes) -> Mem<Bytes> {
-        let into = with_bytes(into, 1, self.state_name.as_bytes())?;
+        let into = with_text(into, 1, &self.state_name)?;
         let into = with_message(into, 2, &self.expiration_spec)?;
-        with_bytes(into, 3, self.type_typename.as_bytes())
+        with_text(into, 3, &self.type_typename)
     }
 }
 

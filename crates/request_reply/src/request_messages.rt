@@ -5,7 +5,7 @@ ghost use Rattle.request_reply.specs.RequestTables.{empty_persisted_value, persi
 use crate::{BatchInvocation, InvocationBatchRequest, PersistedValue};
 use proto_wire::{
     Bytes, DecodeFault, List, Mem, Message, Record, Text, append, bytes_size, join, message_size,
-    messages_size, with_bytes, with_message, with_messages,
+    messages_size, with_message, with_messages, with_text,
 };
 use std::alloc::Global;
 
@@ -39,7 +39,7 @@ impl Message for PersistedValue {
 
     #[tactic(auto, unfolding(crate::specs::RequestTables::persisted_value_rows))]
     fn put(&self, into: Bytes) -> Mem<Bytes> {
-        let into = with_bytes(into, 1, self.state_name.as_bytes())?;
+        let into = with_text(into, 1, &self.state_name)?;
         with_message(into, 2, &self.state_value)
     }
 }

@@ -61,17 +61,42 @@ fn spelled_again(rt: HostRuntime) -> Result<(), Fail> {
 #[test]
 fn first_faults(rt: HostRuntime) {
     let alloc = rt.alloc();
-    faults(&rt, alloc, b"\x08\xff\xff\xff\xff\xff\xff\xff\xff\xff\xff\x01", WireKind::LongVarint, 1);
+    faults(
+        &rt,
+        alloc,
+        b"\x08\xff\xff\xff\xff\xff\xff\xff\xff\xff\xff\x01",
+        WireKind::LongVarint,
+        1,
+    );
     faults(&rt, alloc, b"\x00\x00", WireKind::FieldZero, 0);
     faults(&rt, alloc, b"\x0b", WireKind::WireType, 0);
-    faults(&rt, alloc, b"\x80\x80\x80\x80\x10\x00", WireKind::TagTooLarge, 0);
-    faults(&rt, alloc, b"\xaa\x06\x05\x0a\x03\x0a\x01\xff", WireKind::NotUtf8, 7);
+    faults(
+        &rt,
+        alloc,
+        b"\x80\x80\x80\x80\x10\x00",
+        WireKind::TagTooLarge,
+        0,
+    );
+    faults(
+        &rt,
+        alloc,
+        b"\xaa\x06\x05\x0a\x03\x0a\x01\xff",
+        WireKind::NotUtf8,
+        7,
+    );
     faults(&rt, alloc, b"", WireKind::NoMember, 0);
     faults(&rt, alloc, b"\xaa", WireKind::Truncated, 0);
-    faults(&rt, alloc, b"\xaa\x06\x1c\x0a\x1a\x0a\x01n\x1a\x15io.statefun.types/in", WireKind::Truncated, 2);
+    faults(
+        &rt,
+        alloc,
+        b"\xaa\x06\x1c\x0a\x1a\x0a\x01n\x1a\x15io.statefun.types/in",
+        WireKind::Truncated,
+        2,
+    );
 }
 
-const VALID: &[u8] = b"\xa2\x06\x3d\x22\x3b\x0a\x0bcom.example\x12\x09greetings\x1a\x21\x0a\x18io.statefun.types/string\x10\x01\x1a\x03\x0a\x01a";
+const VALID: &[u8] =
+    b"\xa2\x06\x3d\x22\x3b\x0a\x0bcom.example\x12\x09greetings\x1a\x21\x0a\x18io.statefun.types/string\x10\x01\x1a\x03\x0a\x01a";
 
 #[test]
 fn judged(rt: HostRuntime) -> Result<(), Fail> {

@@ -50,7 +50,7 @@ impl Message for ToRead {
         }
     }
 
-    #[tactic(auto, unfolding(crate::specs::Oneofs::to_rows, crate::specs::Oneofs::batch_of, proto_wire::specs::Message::spelled_message))]
+    #[tactic(auto, unfolding(crate::specs::Oneofs::to_rows, crate::specs::Oneofs::batch_of, proto_wire::specs::Message::spelled_message, proto_wire::specs::Message::fit_message))]
     fn put(&self, into: Bytes) -> Mem<Bytes> {
         match &self.member {
             Some(ToFunction::Invocation(batch)) => with_member(into, 100, batch),
@@ -104,7 +104,7 @@ impl Message for FromRead {
         }
     }
 
-    #[tactic(auto, unfolding(crate::specs::Oneofs::from_rows, crate::specs::Oneofs::response_of, crate::specs::Oneofs::context_of, proto_wire::specs::Message::spelled_message))]
+    #[tactic(auto, unfolding(crate::specs::Oneofs::from_rows, crate::specs::Oneofs::response_of, crate::specs::Oneofs::context_of, proto_wire::specs::Message::spelled_message, proto_wire::specs::Message::fit_message))]
     fn put(&self, into: Bytes) -> Mem<Bytes> {
         match &self.member {
             Some(FromFunction::Result(response)) => with_member(into, 100, response),
