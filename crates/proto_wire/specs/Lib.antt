@@ -3,3 +3,4 @@ pub mod Varint
 pub mod Record
 pub mod Seen
 pub mod Message
+pub mod Counts

@@ -3,7 +3,7 @@ ghost use Rattle.std.specs.Prelude.{◌≡◌, ◌++◌, ◌∷◌, [], List, So
 ghost use Rattle.std.specs.Str.{is_utf8};
 ghost use Rattle.proto_wire.specs.Reads.{Gives, Changes};
 ghost use Rattle.proto_wire.specs.Seen.{item_of};
-ghost use Rattle.proto_wire.specs.Message.{belongs, text_of, enum_of, long_of, bool_of, short_of, entered, appended};
+ghost use Rattle.proto_wire.specs.Message.{belongs, text_of, enum_of, long_of, bool_of, short_of, joined, entered, appended};
 
 use crate::message::{Message, merge};
 use crate::varint::place;
@@ -12,6 +12,7 @@ use std::alloc::Global;
 
 impl Record<'_> {
     /// Whether the record is of the field with this number and wire type.
+    #[tactic(auto, unfolding(crate::specs::Message::belongs))]
     pub fn is(&self, field: u32, wire: u8) -> bool
         ensures { result ≡ belongs field wire (item_of self.now) }
     {
@@ -19,6 +20,7 @@ impl Record<'_> {
     }
 
     /// The payload as a text. The fault is NotUtf8, at the first byte of the payload.
+    #[tactic(auto, unfolding(crate::specs::Message::text_of))]
     pub fn text(&self, alloc: Global) -> Result<Text, DecodeFault>
         ensures { Gives (λ text. text) result (text_of (item_of self.now)) }
     {
@@ -39,6 +41,7 @@ impl Record<'_> {
     }
 
     /// The number as a bool: true where it is not 0.
+    #[tactic(auto, unfolding(crate::specs::Message::bool_of))]
     pub fn bool(&self) -> bool
         ensures { result ≡ bool_of (item_of self.now) }
     {
@@ -46,6 +49,7 @@ impl Record<'_> {
     }
 
     /// The number as an enum: its low 32 bits, signed.
+    #[tactic(auto, unfolding(crate::specs::Message::enum_of))]
     pub fn enumerated(&self) -> i32
         ensures { result ≡ enum_of (item_of self.now) }
     {
@@ -53,6 +57,7 @@ impl Record<'_> {
     }
 
     /// The number as 64 bits, signed.
+    #[tactic(auto, unfolding(crate::specs::Message::long_of))]
     pub fn long(&self) -> i64
         ensures { result ≡ long_of (item_of self.now) }
     {
@@ -60,6 +65,7 @@ impl Record<'_> {
     }
 
     /// The number as 32 bits. The fault is OverLimit, at the first byte of the number.
+    #[tactic(auto, unfolding(crate::specs::Message::short_of))]
     pub fn short(&self) -> Result<u32, DecodeFault>
         ensures { Gives (λ number. number) result (short_of (item_of self.now)) }
     {
@@ -83,7 +89,25 @@ fn utf8(bytes: &[u8]) -> Option<&str>
     }
 }
 
+/// The message that stands, or the blank one, with the payload in it.
+#[tactic(auto, unfolding(crate::specs::Message::joined))]
+pub fn joined<M: Message>(
+    alloc: Global,
+    held: Option<M>,
+    item: &Record<'_>,
+) -> Result<M, DecodeFault>
+    ensures { Gives (λ message. message) result (joined M.empty M.rows held (item_of item.now)) }
+{
+    let mut message = match held {
+        Some(message) => message,
+        None => M::blank(alloc),
+    };
+    merge(alloc, &mut message, item.end, item.payload)?;
+    Ok(message)
+}
+
 /// Takes the payload into the message that stands, or into the blank one. After an `Err` the slot is of no further use.
+#[tactic(auto, unfolding(crate::specs::Message::entered))]
 pub fn join<M: Message>(
     alloc: Global,
     slot: &mut Option<M>,
@@ -91,16 +115,12 @@ pub fn join<M: Message>(
 ) -> Result<(), DecodeFault>
     ensures { Changes result slot.new (entered M.empty M.rows slot.old (item_of item.now)) }
 {
-    let mut message = match slot.take() {
-        Some(message) => message,
-        None => M::blank(alloc),
-    };
-    merge(alloc, &mut message, item.end, item.payload)?;
-    *slot = Some(message);
+    *slot = Some(joined(alloc, slot.take(), item)?);
     Ok(())
 }
 
 /// Adds the message of the payload to the list. An `Err` changes nothing.
+#[tactic(auto, unfolding(crate::specs::Message::appended))]
 pub fn append<M: Message>(
     alloc: Global,
     list: &mut List<M>,

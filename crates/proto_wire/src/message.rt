@@ -1,8 +1,8 @@
 //! Messages: how their records are read, one loop for all.
-ghost use Rattle.std.specs.Prelude.{◌≡◌, ◌++◌, ◌∷◌, [], List, Some, None, Bool, length, ◌%◌, ◌^◌, IfOk};
+ghost use Rattle.std.specs.Prelude.{◌≡◌, ◌++◌, ◌∷◌, [], List, Some, None, Bool, length, ◌%◌, ◌^◌, IfOk, OnOk, true};
 ghost use Rattle.proto_wire.specs.Reads.{Gives, Changes};
 ghost use Rattle.proto_wire.specs.Seen.{item_of};
-ghost use Rattle.proto_wire.specs.Message.{Row, accepted, value_in, joined, belongs, text_of, enum_of, long_of, bool_of, short_of, spelling, capped};
+ghost use Rattle.proto_wire.specs.Message.{Row, accepted, value_in, joined, belongs, text_of, enum_of, long_of, bool_of, short_of, spelling, fit, capped};
 
 use crate::record::record_in;
 use crate::{Bytes, DecodeFault, List, Mem, Record, Text, WireFault, WireKind};
@@ -31,7 +31,8 @@ pub trait Message: Drop {
 
     /// Adds the canonical spelling at the end.
     fn put(&self, into: Bytes) -> Mem<Bytes>
-        ensures { IfOk result (λ bytes. bytes ≡ into ++ spelling rows self.now) };
+        ensures spelled { IfOk result (λ bytes. bytes ≡ into ++ spelling rows self.now) }
+        ensures fits { OnOk result (fit rows self.now ≡ true) };
 }
 
 /// Reads bytes, which end at the place `end` of the whole input, into the message that stands: each record from left to right, down to the first fault.

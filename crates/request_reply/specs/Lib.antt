@@ -1,2 +1,5 @@
+pub mod RequestTables
+pub mod AnswerTables
+pub mod Oneofs
 pub mod Spelling
 pub mod Valid

@@ -5,6 +5,7 @@ ghost use Rattle.typed_values.specs.Tables.{empty_address, address_rows, empty_v
 use crate::{Address, TypeName, TypedValue};
 use proto_wire::{
     Bytes, DecodeFault, Mem, Message, Record, Text, bool_size, bytes_size, with_bool, with_bytes,
+    with_text,
 };
 use std::alloc::Global;
 
@@ -45,9 +46,9 @@ impl Message for Address {
 
     #[tactic(auto, unfolding(crate::specs::Tables::address_rows))]
     fn put(&self, into: Bytes) -> Mem<Bytes> {
-        let into = with_bytes(into, 1, self.kind.namespace.as_bytes())?;
-        let into = with_bytes(into, 2, self.kind.name.as_bytes())?;
-        with_bytes(into, 3, self.id.as_bytes())
+        let into = with_text(into, 1, &self.kind.namespace)?;
+        let into = with_text(into, 2, &self.kind.name)?;
+        with_text(into, 3, &self.id)
     }
 }
 
@@ -86,7 +87,7 @@ impl Message for TypedValue {
 
     #[tactic(auto, unfolding(crate::specs::Tables::value_rows))]
     fn put(&self, into: Bytes) -> Mem<Bytes> {
-        let into = with_bytes(into, 1, self.typename.as_bytes())?;
+        let into = with_text(into, 1, &self.typename)?;
         let into = with_bool(into, 2, self.has_value)?;
         with_bytes(into, 3, self.value.as_slice())
     }
