@@ -4,3 +4,5 @@ pub mod Backed
 pub mod Egress
 pub mod Laws
 pub mod LawsOfEgress
+pub mod Deliveries
+pub mod LawsOfMail
