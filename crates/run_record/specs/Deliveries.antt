@@ -1,5 +1,5 @@
 -- What a record takes, puts into the mail, and delivers.
-use Rattle.std.specs.Prelude.{ℕ, ◌+◌, nat_eq, zero, suc, List, [], ◌∷◌, ◌++◌, Bool, ◌&&◌, if◌then◌else◌, Option, Some, None, map, filter, option_and_then}
+use Rattle.std.specs.Prelude.{◌≡◌, ◌≤◌, count_by, ℕ, ◌+◌, nat_eq, zero, suc, List, [], ◌∷◌, ◌++◌, Bool, ◌&&◌, if◌then◌else◌, Option, Some, None, map, filter, option_and_then}
 use Rattle.std.specs.Option.{option_map_or}
 use Rattle.typed_values.specs.declared.address.Address.{Address}
 use Rattle.typed_values.specs.declared.value.TypedValue.{TypedValue}
@@ -18,7 +18,7 @@ use Rattle.run_record.specs.declared.entry.Entry.{Entry}
 use Rattle.run_record.specs.declared.entry.Step.{Step}
 use Rattle.run_record.specs.declared.entry.Step.TheVariants.{Take, Batch}
 use Rattle.run_record.specs.Routing.{letters_of}
-use Rattle.run_record.specs.Machine.{State, request_of, argument_of, letters_from, step_after}
+use Rattle.run_record.specs.Machine.{State, first_state, request_of, argument_of, letters_from, step_after, replayed}
 
 -- what each step of a record gives, in the state before it, joined in the record's order
 abbrev pub over_steps : {A : Type 0} → (State → Step → List A) → Module → Lists → State → List Entry → List A
@@ -79,3 +79,17 @@ put_in m lists st entries sender target = over_steps (λ before step. arguments_
 -- what a record delivers of a pair, in order
 unfoldable pub delivered : Module → Lists → State → List Entry → Sender → Address → List TypedValue
 delivered m lists st entries sender target = over_steps (delivered_by m sender target) m lists st entries
+
+-- ---- laws
+
+-- a record of a split is taken at most once in every replay
+abbrev pub EachTakenOnce : Type 0
+EachTakenOnce = (m : Module) (lists : Lists) (last : State) (entries : List Entry) → replayed m lists first_state entries ≡ Some last → (split number : ℕ) → count_by (nat_eq number) (numbers_taken m lists first_state entries split) ≤ 1
+
+-- the records taken of a split are its first, in order, as many as the state says
+abbrev pub TakenInOrder : Type 0
+TakenInOrder = (m : Module) (lists : Lists) (last : State) (entries : List Entry) → replayed m lists first_state entries ≡ Some last → (split : ℕ) → numbers_taken m lists first_state entries split ≡ counting 0 (last.taken split)
+
+-- what is put into the mail of a pair is, in order, what is delivered of it and then what waits there
+abbrev pub DeliveredInOrder : Type 0
+DeliveredInOrder = (m : Module) (lists : Lists) (last : State) (entries : List Entry) → replayed m lists first_state entries ≡ Some last → (sender : Sender) (target : Address) → put_in m lists first_state entries sender target ≡ delivered m lists first_state entries sender target ++ last.mail sender target

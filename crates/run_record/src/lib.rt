@@ -2,7 +2,9 @@
 #![tactic(auto)]
 
 mod entry;
+mod laws;
 mod module;
 
 pub use entry::{Entry, Reply, Step};
+pub use laws::{each_record_is_taken_once, letters_are_delivered_in_order, records_are_taken_in_order};
 pub use module::{Endpoint, IngressSpec, Module, TypePattern};
