@@ -1,3 +1,4 @@
+pub mod Queues
 pub mod Routing
 pub mod Machine
 pub mod Backed
