@@ -4,6 +4,7 @@ use Rattle.std.specs.declared.cmp.Ordering.{Ordering}
 use Rattle.std.specs.BTreeMap.{BTreeMap, get}
 use Rattle.std.specs.Option.{option_map_or}
 use Rattle.std.proofs.lemmas.Map.Lookups.{CmpEqualImpliesEq}
+use Rattle.run_record.specs.declared.shelf.Shelf.{Shelf}
 
 -- keys that compare alike are one
 abbrev pub AreExact : {K : Type 0} → (K → K → Ordering) → Type 0
@@ -17,3 +18,13 @@ list_at compare lists key = unwrap_or (get compare lists key) []
 pub record ChangesAt {K X : Type 0} (before after : K → List X) (key : K) (now : List X) : Type 0 where
   pub here : after key ≡ now
   pub others : (other : K) → (other ≡ key → ⊥) → after other ≡ before other
+
+-- the list of a pair of keys
+abbrev pub list_in : {A B X : Type 0} → (A → A → Ordering) → (B → B → Ordering) → BTreeMap A (Shelf B X) → A → B → List X
+list_in outer_compare inner_compare shelves outer inner = option_map_or (λ shelf. list_at inner_compare shelf.queues inner) (get outer_compare shelves outer) []
+
+-- one pair of keys has this list now, and each other pair what it had
+pub record ChangesIn {A B X : Type 0} (before after : A → B → List X) (outer : A) (inner : B) (now : List X) : Type 0 where
+  pub here : after outer inner ≡ now
+  pub beside : (other : B) → (other ≡ inner → ⊥) → after outer other ≡ before outer other
+  pub others : (other : A) → (other ≡ outer → ⊥) → (any : B) → after other any ≡ before other any
