@@ -1,4 +1,5 @@
 pub mod Queues
+pub mod Keys
 pub mod Routing
 pub mod Machine
 pub mod Backed

@@ -2,6 +2,7 @@
 #![tactic(auto)]
 
 mod entry;
+mod key;
 mod laws;
 mod module;
 mod queue;
