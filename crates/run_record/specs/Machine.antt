@@ -13,7 +13,6 @@ use Rattle.typed_values.specs.declared.cell.Expiry.{Expiry}
 use Rattle.typed_values.specs.declared.cell.Expiry.TheVariants.{Never, AfterWrite, AfterInvoke}
 use Rattle.typed_values.specs.declared.record.Delay.{Delay}
 use Rattle.typed_values.specs.Sameness.{same_name, same_address, same_sender}
-use Rattle.sf_outside.specs.declared.ingress.IngressRecord.{IngressRecord}
 use Rattle.sf_outside.specs.Splits.{Lists, record_at}
 use Rattle.request_reply.specs.declared.request.ToFunction.{ToFunction}
 use Rattle.request_reply.specs.declared.request.ToFunction.TheVariants.{Invocation}

@@ -5,6 +5,7 @@ mod address;
 mod cell;
 mod letter;
 mod name;
+mod parse;
 mod record;
 mod value;
 
@@ -12,5 +13,6 @@ pub use address::Address;
 pub use cell::{CellSpec, Expiry};
 pub use letter::{Letter, Sender};
 pub use name::TypeName;
+pub use parse::{NameFault, parse_name, parse_type_name};
 pub use record::{Delay, EgressRecord};
 pub use value::TypedValue;
