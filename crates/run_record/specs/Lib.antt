@@ -8,3 +8,4 @@ pub mod Laws
 pub mod LawsOfEgress
 pub mod Deliveries
 pub mod LawsOfMail
+pub mod StateOf

@@ -1,5 +1,5 @@
 //! Queues by pairs of keys.
-ghost use Rattle.std.specs.Prelude.{◌≡◌, ◌+◌, ◌-◌, [], ◌∷◌, ◌++◌, drop, take, length, slice_get, OnOk, OnErr, option_copied, List, map};
+ghost use Rattle.std.specs.Prelude.{◌≡◌, ◌+◌, ◌-◌, [], ◌∷◌, ◌++◌, drop, take, length, slice_get, OnOk, OnErr, IfOk, option_copied, List, map};
 ghost use Rattle.run_record.specs.Queues.{list_in, ChangesIn, HasBehind, place_of};
 ghost use Rattle.run_record.specs.declared.shelves.Placed.{Placed};
 
@@ -81,8 +81,13 @@ impl<A: Key, B: Key, T: Drop> Shelves<A, B, T> {
         }
     }
 
-    /// Adds values at the ends of their pairs' queues, in order. An `Err` changes no queue.
-    pub fn push_all(&mut self, alloc: Global, items: Vec<Placed<A, B, T>>) -> Mem<()>
+    /// Adds values at the ends of their pairs' queues, in order, and answers where. An `Err` changes no queue.
+    pub fn push_all(
+        &mut self,
+        alloc: Global,
+        items: Vec<Placed<A, B, T>>,
+    ) -> Mem<Vec<Place<A, B>>>
+        ensures places { IfOk result (λ places. places.items ≡ map place_of items.items) }
         ensures ok { OnOk result (HasBehind A.cmp B.cmp (list_in A.cmp B.cmp self.old.shelves) items.items (list_in A.cmp B.cmp self.new.shelves)) }
         ensures err { OnErr result ((a : A) → (b : B) → list_in A.cmp B.cmp self.new.shelves a b ≡ list_in A.cmp B.cmp self.old.shelves a b) }
     {
@@ -93,7 +98,7 @@ impl<A: Key, B: Key, T: Drop> Shelves<A, B, T> {
                 return Err(refused);
             }
         }
-        Ok(())
+        Ok(done)
     }
 
     // Adds one value, and notes where.
@@ -123,8 +128,8 @@ impl<A: Key, B: Key, T: Drop> Shelves<A, B, T> {
         }
     }
 
-    // Takes away the values that were added last at these pairs, in this order.
-    fn withdraw(&mut self, places: &[Place<A, B>])
+    /// Takes away the values that were added last at these pairs, in this order.
+    pub fn withdraw(&mut self, places: &[Place<A, B>])
         ensures { (before : A → B → List T) (items : List (Placed A B T)) → map place_of items ≡ places.now → HasBehind A.cmp B.cmp before items (list_in A.cmp B.cmp self.old.shelves) → (a : A) → (b : B) → list_in A.cmp B.cmp self.new.shelves a b ≡ before a b }
     {
         for gone in 0..places.len() {

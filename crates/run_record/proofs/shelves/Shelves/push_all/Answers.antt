@@ -16,6 +16,13 @@ loop-item-preserved g c =
      c.in_default.ensures.noted ∙ ap (λ xs. xs ++ place_of c.in-Some.item ∷ []) c.loop-item.invariant.3 ∙ sym (map_push place_of c.loop-item.yielded c.in-Some.item),
      append_assoc c.loop-item.yielded (c.in-Some.item ∷ []) c.next.new.self.rest.items ∙ ap (λ xs. c.loop-item.yielded ++ xs) (sym c.in-Some.ensures.steps.0) ∙ c.loop-item.invariant.4)
 
+pub returns-clause-places : goal.returns-clause-places
+returns-clause-places g c =
+    let rest = c.loop-item.item-iterator.rest in
+    let none : length rest.items ≡ 0 = omega (arith, rest.ok.0, c.in-None.ensures.steps.0) in
+    let all : c.loop-item.yielded ≡ c.args.items.items = sym (append-nil c.loop-item.yielded) ∙ ap (λ xs. c.loop-item.yielded ++ xs) (sym (nil_from_length rest.items none)) ∙ c.loop-item.invariant.4 in
+    c.loop-item.invariant.3 ∙ ap (map place_of) all
+
 pub returns-clause-ok : goal.returns-clause-ok
 returns-clause-ok g c =
     let rest = c.loop-item.item-iterator.rest in
