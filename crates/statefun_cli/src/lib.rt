@@ -4,6 +4,8 @@
 mod end;
 mod line;
 mod output;
+#[cfg(test)]
+mod word_tests;
 mod words;
 
 pub use end::{PlainEnd, PlainRun};
