@@ -67,7 +67,11 @@ mod tests {
     #[test]
     fn names(rt: HostRuntime) -> Result<(), Fail> {
         let alloc = rt.alloc();
-        for (text, namespace, name) in [("com.example/greeter", "com.example", "greeter"), ("a/b/c", "a/b", "c"), ("//c", "/", "c")] {
+        for (text, namespace, name) in [
+            ("com.example/greeter", "com.example", "greeter"),
+            ("a/b/c", "a/b", "c"),
+            ("//c", "/", "c"),
+        ] {
             let found = parse_type_name(alloc, &Text::copy_of(alloc, text)?)?;
             assert_eq!(rt; found.namespace.as_str(), namespace);
             assert_eq!(rt; found.name.as_str(), name);
