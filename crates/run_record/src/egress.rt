@@ -165,12 +165,61 @@ fn upper_digit(digit: u8) -> u8
     requires { digit < 16 }
     ensures { result ≡ upper_digit digit }
 {
-    if digit < 10 { b'0' + digit } else { b'A' - 10 + digit }
+    if digit < 10 {
+        b'0' + digit
+    } else {
+        b'A' - 10 + digit
+    }
 }
 
 fn lower_digit(digit: u8) -> u8
     requires { digit < 16 }
     ensures { result ≡ lower_digit digit }
 {
-    if digit < 10 { b'0' + digit } else { b'a' - 10 + digit }
+    if digit < 10 {
+        b'0' + digit
+    } else {
+        b'a' - 10 + digit
+    }
+}
+
+#[cfg(test)]
+mod tests {
+    use super::*;
+    use proto_wire::Text;
+    use std::alloc::Global;
+    use std::test::Fail;
+
+    fn name(alloc: Global, namespace: &str, name: &str) -> Mem<TypeName> {
+        Ok(TypeName {
+            namespace: Text::copy_of(alloc, namespace)?,
+            name: Text::copy_of(alloc, name)?,
+        })
+    }
+
+    #[test]
+    fn lines_of_records(rt: HostRuntime) -> Result<(), Fail> {
+        let alloc = rt.alloc();
+        let mut records = Vec::new(alloc);
+        for has_value in [true, false] {
+            records.push(EgressRecord {
+                sender: Address {
+                    kind: name(alloc, "com.example", "greeter")?,
+                    id: Text::copy_of(alloc, "a\u{e9} %")?,
+                },
+                egress: name(alloc, "com.example", "greetings")?,
+                argument: TypedValue {
+                    typename: Text::copy_of(alloc, "io.statefun.types/string")?,
+                    has_value,
+                    value: Bytes::copy_of(alloc, &[0x0a, 0x01, 0x61, 0xff])?,
+                },
+            })?;
+        }
+        let mut text = Bytes::new(alloc);
+        put_egress_text(&mut text, records.as_slice())?;
+        let want =
+            b"com.example/greeter/a%C3%A9%20%25 com.example/greetings io.statefun.types/string 0a0161ff\ncom.example/greeter/a%C3%A9%20%25 com.example/greetings io.statefun.types/string none\n";
+        assert_eq!(rt; text.as_slice(), want.as_slice());
+        Ok(())
+    }
 }

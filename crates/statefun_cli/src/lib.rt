@@ -8,6 +8,8 @@ mod output;
 mod polling;
 mod progress;
 mod turn;
+#[cfg(test)]
+mod word_tests;
 mod words;
 
 pub use end::{PlainEnd, PlainRun};

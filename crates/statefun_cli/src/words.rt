@@ -59,7 +59,13 @@ pub fn read_words(alloc: Global, words: &[String]) -> Result<Plan, WordsFault>
 }
 
 /// The module that a plan is made with.
-fn plain_module(alloc: Global, kind: TypeName, url: &str, value_type: &str, egress: TypeName) -> Mem<Module>
+fn plain_module(
+    alloc: Global,
+    kind: TypeName,
+    url: &str,
+    value_type: &str,
+    egress: TypeName,
+) -> Mem<Module>
     ensures { IfOk result (λ made. made ≡ plain_module kind url.now value_type.now egress) }
 {
     let mut endpoints = List::new(alloc);
@@ -77,10 +83,19 @@ fn plain_module(alloc: Global, kind: TypeName, url: &str, value_type: &str, egre
     let mut targets = List::new(alloc);
     targets.push(kind.try_clone(alloc)?)?;
     let mut ingresses = List::new(alloc);
-    ingresses.push(IngressSpec { id: kind, splits: 1, value_type: Text::copy_of(alloc, value_type)?, targets })?;
+    ingresses.push(IngressSpec {
+        id: kind,
+        splits: 1,
+        value_type: Text::copy_of(alloc, value_type)?,
+        targets,
+    })?;
     let mut egresses = List::new(alloc);
     egresses.push(egress)?;
-    Ok(Module { endpoints, ingresses, egresses })
+    Ok(Module {
+        endpoints,
+        ingresses,
+        egresses,
+    })
 }
 
 /// The fault of words that are wrong from a place on.
@@ -157,10 +172,18 @@ fn turns_of(words: &[String]) -> Result<u64, WordsFault>
 {
     if is_turns_at(words) {
         let turns = turns_at(words)?;
-        if words.len() <= 7 { Ok(turns) } else { Err(usage(7)) }
+        if words.len() <= 7 {
+            Ok(turns)
+        } else {
+            Err(usage(7))
+        }
     } else {
         let turns = joined_turns_at(words)?;
-        if words.len() <= 6 { Ok(turns) } else { Err(usage(6)) }
+        if words.len() <= 6 {
+            Ok(turns)
+        } else {
+            Err(usage(6))
+        }
     }
 }
 
@@ -231,7 +254,11 @@ fn turns_within(turns: u64) -> Option<u64>
     ensures value { result ≡ turns_within turns }
     ensures bound { IfSome result (λ turns. (1 ≤ turns) × (turns ≤ 1000000000)) }
 {
-    if 1 <= turns && turns <= MOST_TURNS { Some(turns) } else { None }
+    if 1 <= turns && turns <= MOST_TURNS {
+        Some(turns)
+    } else {
+        None
+    }
 }
 
 /// `--turns=N` as one word.
