@@ -40,3 +40,7 @@ placed_letter letter = record { outer = letter.target; inner = letter.sender; va
 
 abbrev pub placed_message : Address → EgressMessage → Placed Address TypeName TypedValue
 placed_message address message = record { outer = address; inner = egress_name message; value = argument_of message.argument }
+
+-- the count that stands at a sender
+abbrev pub tally_at : BTreeMap Sender ℕ → Sender → ℕ
+tally_at tally sender = unwrap_or (get sender_order tally sender) 0

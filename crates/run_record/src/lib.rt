@@ -7,6 +7,7 @@ mod key;
 mod laws;
 mod machine;
 mod module;
+mod placing;
 mod queue;
 mod routes;
 mod shelf;
