@@ -7,6 +7,8 @@ mod key;
 mod laws;
 mod machine;
 mod module;
+mod numbers;
+mod picking;
 mod placing;
 mod queue;
 mod routes;
