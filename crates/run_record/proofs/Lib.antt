@@ -1,2 +1,3 @@
-pub mod Placing
+pub mod Behind
 pub mod Templates
+pub mod Picks

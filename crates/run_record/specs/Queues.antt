@@ -47,3 +47,12 @@ values_at {A} {B} {X} outer_compare inner_compare items outer inner = map (λ (i
 -- each pair of keys has, behind what it had before, the values that are placed there
 abbrev pub HasBehind : {A B X : Type 0} → (A → A → Ordering) → (B → B → Ordering) → (A → B → List X) → List (Placed A B X) → (A → B → List X) → Type 0
 HasBehind {A} {B} outer_compare inner_compare before items after = (outer : A) (inner : B) → after outer inner ≡ before outer inner ++ values_at outer_compare inner_compare items outer inner
+
+-- the number of a key; one that is not there has 0
+abbrev pub number_at : {K : Type 0} → (K → K → Ordering) → BTreeMap K ℕ → K → ℕ
+number_at compare numbers key = unwrap_or (get compare numbers key) 0
+
+-- one key has this number now, and each other key what it had
+pub record SetsAt {K : Type 0} (before after : K → ℕ) (key : K) (now : ℕ) : Type 0 where
+  pub here : after key ≡ now
+  pub others : (other : K) → (other ≡ key → ⊥) → after other ≡ before other

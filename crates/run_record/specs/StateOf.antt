@@ -1,6 +1,5 @@
 -- The state that a machine keeps.
-use Rattle.std.specs.Prelude.{◌≡◌, ℕ, ◌<◌, ◌^◌, List, [], ◌∷◌, Option, Some, None, get_or, unwrap_or}
-use Rattle.std.specs.BTreeMap.{BTreeMap, get}
+use Rattle.std.specs.Prelude.{◌≡◌, ℕ, ◌<◌, ◌^◌, List, [], ◌∷◌, get_or}
 use Rattle.typed_values.specs.declared.name.TypeName.{TypeName}
 use Rattle.typed_values.specs.declared.address.Address.{Address}
 use Rattle.typed_values.specs.declared.value.TypedValue.{TypedValue}
@@ -11,7 +10,8 @@ use Rattle.run_record.specs.declared.shelves.Shelves.{Shelves}
 use Rattle.run_record.specs.declared.shelves.Placed.{Placed}
 use Rattle.run_record.specs.declared.machine.Machine.{Machine}
 use Rattle.run_record.specs.Keys.{name_order, address_order, sender_order}
-use Rattle.run_record.specs.Queues.{list_in}
+use Rattle.run_record.specs.declared.numbers.Numbers.{Numbers}
+use Rattle.run_record.specs.Queues.{list_in, number_at}
 use Rattle.run_record.specs.Machine.{State, Mail, egress_name, argument_of}
 
 -- mail is kept by target, and then by sender
@@ -21,8 +21,8 @@ mail_of kept sender target = list_in address_order sender_order kept.shelves tar
 abbrev pub egress_in : Shelves Address TypeName TypedValue → Address → TypeName → List TypedValue
 egress_in kept address egress = list_in address_order name_order kept.shelves address egress
 
-abbrev pub moment_in : BTreeMap Address ℕ → Address → ℕ
-moment_in moments address = unwrap_or (get address_order moments address) 0
+abbrev pub moment_in : Numbers Address → Address → ℕ
+moment_in kept address = number_at address_order kept.numbers address
 
 unfoldable pub state_of : Machine → State
 state_of machine = record {

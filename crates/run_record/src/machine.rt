@@ -3,10 +3,10 @@ ghost use Rattle.std.specs.Prelude.{◌≡◌, ◌+◌, ◌<◌, ◌^◌, IfOk, 
 ghost use Rattle.run_record.specs.Machine.{first_state};
 ghost use Rattle.run_record.specs.StateOf.{state_of};
 
+use crate::numbers::Numbers;
 use crate::shelves::Shelves;
 use proto_wire::Mem;
 use std::alloc::Global;
-use std::collections::BTreeMap;
 use typed_values::{Address, Sender, TypeName, TypedValue};
 
 /// The plain program of the machine. What a step costs grows with the logarithm of what is kept, and with what the step
@@ -15,7 +15,7 @@ use typed_values::{Address, Sender, TypeName, TypedValue};
 pub struct Machine {
     pub(crate) taken: Vec<u64>,
     pub(crate) mail: Shelves<Address, Sender, TypedValue>,
-    pub(crate) seen: BTreeMap<Address, u64>,
+    pub(crate) seen: Numbers<Address>,
     pub(crate) egress: Shelves<Address, TypeName, TypedValue>,
 }
 
@@ -28,7 +28,7 @@ impl Machine {
         Ok(Machine {
             taken: vec![in alloc; 0u64; splits as usize]?,
             mail: Shelves::new(alloc),
-            seen: BTreeMap::new(alloc),
+            seen: Numbers::new(alloc),
             egress: Shelves::new(alloc),
         })
     }
@@ -49,9 +49,6 @@ impl Machine {
     pub fn seen(&self, address: &Address) -> u64
         ensures { result ≡ (state_of self.now).seen address.now }
     {
-        match self.seen.get(address) {
-            Some(moment) => *moment,
-            None => 0,
-        }
+        self.seen.at(address)
     }
 }

@@ -2,7 +2,7 @@ use Rattle.std.proofs.Common.{◌≡◌, ◌∙◌, sym, ap, [], ◌∷◌, ◌+
 use Rattle.std.proofs.lemmas.List.{map_push, nil_from_length}
 use Rattle.run_record.specs.Queues.{list_in, place_of, HasBehind, values_at}
 use Rattle.run_record.specs.declared.shelves.Placed.{Placed}
-use Rattle.run_record.proofs.Placing.{more_behind}
+use Rattle.run_record.proofs.Behind.{more_behind}
 use Rattle.run_record.proofs.shelves.Shelves.push_all.Goals as goal
 
 pub returns-in-Err-clause-err : goal.returns-in-Err-clause-err

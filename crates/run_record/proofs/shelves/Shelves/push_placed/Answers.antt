@@ -1,7 +1,7 @@
 use Rattle.std.proofs.Common.{◌≡◌, ◌∙◌, [], ◌∷◌, ◌++◌, take, length, ◌-◌, subst, append-nil}
 use Rattle.run_record.specs.Queues.{list_in, ChangesIn, HasBehind, place_of}
 use Rattle.run_record.specs.declared.shelves.Place.{Place}
-use Rattle.run_record.proofs.Placing.{pushed, dropped}
+use Rattle.run_record.proofs.Behind.{pushed, dropped}
 use Rattle.run_record.proofs.shelves.Shelves.push_placed.Goals as goal
 
 pub returns-in-Err-clause-err : goal.returns-in-Err-clause-err

@@ -1,6 +1,6 @@
 use Rattle.std.proofs.Common.{arith}
 use Rattle.run_record.specs.Queues.{list_in}
-use Rattle.run_record.proofs.Placing.{withdrawn_one, withdrawn_all}
+use Rattle.run_record.proofs.Behind.{withdrawn_one, withdrawn_all}
 use Rattle.run_record.proofs.shelves.Shelves.withdraw.Goals as goal
 
 pub loop-gone-preserved : goal.loop-gone-preserved
