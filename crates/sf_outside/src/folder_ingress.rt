@@ -1,5 +1,6 @@
 //! An ingress over the logs of a folder.
 ghost use Rattle.std.specs.Prelude.{◌≡◌, ◌<◌, ◌^◌, None, IfOk, IfSome};
+ghost use Rattle.std.specs.BTreeMap.{IsEmpty};
 ghost use Rattle.sf_outside.specs.Told.{HasCause};
 
 use crate::split_log::SplitLog;
@@ -27,7 +28,9 @@ pub struct FolderIngress<R: Files> {
 impl<R: Files> FolderIngress<R> {
     /// An ingress over this folder, on which no read has failed. Opens nothing yet, and takes no memory.
     pub fn new(alloc: Global, files: R, folder: Text) -> FolderIngress<R>
+        ensures files { result.files ≡ files }
         ensures folder { result.folder ≡ folder }
+        ensures unopened { IsEmpty result.logs }
         ensures faults { result.failed ≡ 0 }
     {
         FolderIngress {

@@ -1,19 +1,20 @@
 use super::*;
 use crate::split_log::SplitLog;
-use proto_wire::{Bytes, List, Message, Text, put_varint};
+use proto_wire::{Bytes, List, Message, OutOfMemory, Text, put_varint};
 use std::alloc::Global;
 use std::io::{ErrorKind, Read, Seek, SeekFrom, Write};
+use std::process::Abort;
 use std::test::*;
 use std::{fs, io};
 
-fn record(alloc: Global, key: &str, value: &[u8]) -> Result<IngressRecord, Fail> {
+fn record(alloc: Global, key: &str) -> Result<IngressRecord, OutOfMemory> {
     Ok(IngressRecord {
         key: Text::copy_of(alloc, key)?,
-        value: Bytes::copy_of(alloc, value)?,
+        value: Bytes::copy_of(alloc, key.as_bytes())?,
     })
 }
 
-fn numbers(alloc: Global, items: &[u64]) -> Result<List<u64>, Fail> {
+fn numbers(alloc: Global, items: &[u64]) -> Result<List<u64>, OutOfMemory> {
     Ok(List::of(Vec::from_slice(alloc, items)?))
 }
 
@@ -25,28 +26,52 @@ fn call(turn: u32) -> Call {
     }
 }
 
+type Want<'a> = Result<Option<&'a str>, Fault>;
+
+// Reads a record, whose value is that of its key.
+fn check_read<I: Ingress>(rt: &impl Abort, ingress: &mut I, split: u32, offset: u64, want: Want) {
+    match (ingress.read(split, offset), want) {
+        (Ok(Some(record)), Ok(Some(key))) => {
+            assert_eq!(rt; record.key.as_str(), key);
+            assert_eq!(rt; record.value.as_slice(), key.as_bytes());
+        }
+        (Ok(None), Ok(None)) => {}
+        (Err(fault), Err(wanted)) => assert_eq!(rt; fault, wanted),
+        _ => panic!(rt; "record {offset} of split {split}"),
+    }
+}
+
+fn records(alloc: Global, keys: &[&str]) -> Result<List<IngressRecord>, OutOfMemory> {
+    let mut list = List::new(alloc);
+    for key in keys {
+        list.push(record(alloc, key)?)?;
+    }
+    Ok(list)
+}
+
 #[test]
 fn memory_ingress_reads_its_lists(rt: HostRuntime) -> Result<(), Fail> {
     let alloc = rt.alloc();
-    let mut list = List::new(alloc);
-    list.push(record(alloc, "a", &[7])?)?;
-    list.push(record(alloc, "", &[])?)?;
     let mut lists = List::new(alloc);
-    lists.push(list)?;
+    lists.push(records(alloc, &["a", ""])?)?;
     let mut ingress = MemoryIngress::new(alloc, lists, numbers(alloc, &[1])?)?;
-    assert!(rt; ingress.read(0, 0)? == Some(record(alloc, "a", &[7])?));
-    assert!(rt;
-        ingress.read(0, 0) == Err(Fault::Failed),
-        "the second call fails"
-    );
-    assert!(rt; ingress.read(0, 1)? == Some(record(alloc, "", &[])?));
-    assert!(rt; ingress.read(0, 2)? == None);
-    assert!(rt;
-        ingress.read(1, 0)? == None,
-        "a split past the lists is empty"
-    );
-    let mut steady = MemoryIngress::steady(alloc, List::new(alloc))?;
-    assert!(rt; steady.read(0, 0)? == None);
+    let rows: [(u32, u64, Want); 5] = [
+        (0, 0, Ok(Some("a"))),
+        (0, 0, Err(Fault::Failed)),
+        (0, 1, Ok(Some(""))),
+        (0, 2, Ok(None)),
+        (1, 0, Ok(None)),
+    ];
+    for (split, offset, want) in rows {
+        check_read(&rt, &mut ingress, split, offset, want);
+    }
+    Ok(())
+}
+
+#[test]
+fn a_steady_ingress(rt: HostRuntime) -> Result<(), Fail> {
+    let mut steady = MemoryIngress::steady(rt.alloc(), List::new(rt.alloc()))?;
+    check_read(&rt, &mut steady, 0, 0, Ok(None));
     Ok(())
 }
 
@@ -54,58 +79,87 @@ fn memory_ingress_reads_its_lists(rt: HostRuntime) -> Result<(), Fail> {
 fn memory_sink_keeps_what_is_written(rt: HostRuntime) -> Result<(), Fail> {
     let alloc = rt.alloc();
     let held = Bytes::copy_of(alloc, &[1])?;
-    let mut sink = MemorySink::new(alloc, held, numbers(alloc, &[1, 2])?)?;
-    assert_eq!(rt; sink.write(&[2, 3])?, 2);
-    assert_eq!(rt; sink.write(&[9]), Err(Fault::Failed));
-    assert_eq!(rt; sink.write(&[9]), Err(Fault::Failed));
-    assert_eq!(rt; sink.write(&[])?, 0);
-    assert_eq!(rt; sink.write(&[4])?, 1);
+    let mut sink = MemorySink::new(alloc, held, numbers(alloc, &[1])?)?;
+    let rows: [(&[u8], Result<usize, Fault>); 4] = [
+        (&[2, 3], Ok(2)),
+        (&[9], Err(Fault::Failed)),
+        (&[], Ok(0)),
+        (&[4], Ok(1)),
+    ];
+    for (bytes, want) in rows {
+        assert_eq!(rt; sink.write(bytes), want);
+    }
     assert_eq!(rt; sink.bytes().as_slice(), [1, 2, 3, 4].as_slice());
-    let mut steady = MemorySink::steady(alloc, Bytes::new(alloc))?;
+    Ok(())
+}
+
+#[test]
+fn a_steady_sink(rt: HostRuntime) -> Result<(), Fail> {
+    let mut steady = MemorySink::steady(rt.alloc(), Bytes::new(rt.alloc()))?;
     assert_eq!(rt; steady.write(&[5])?, 1);
     Ok(())
+}
+
+// Polls, and looks at the turn of the call and at the first byte of the answer, or at the note of its loss.
+fn check_poll<L: Link>(
+    rt: &impl Abort,
+    link: &mut L,
+    want: Result<Option<(u32, bool, u32)>, Fault>,
+) {
+    match (link.poll(0), want) {
+        (Ok(Some(Outcome { call, what })), Ok(Some((turn, lost, number)))) => {
+            assert_eq!(rt; call.turn, turn);
+            match what {
+                Answered::Lost(note) => assert_eq!(rt; (lost, number), (true, note)),
+                Answered::Answer(answer) => {
+                    let first = answer.as_slice().first().copied();
+                    assert_eq!(rt; (lost, Some(number)), (false, first.map(u32::from)));
+                }
+            }
+        }
+        (Ok(None), Ok(None)) => {}
+        (Err(fault), Err(wanted)) => assert_eq!(rt; fault, wanted),
+        _ => panic!(rt; "a poll"),
+    }
+}
+
+fn script(alloc: Global) -> Result<List<Turn>, OutOfMemory> {
+    let mut turns = List::new(alloc);
+    turns.push(Turn::Reply(1, Bytes::copy_of(alloc, &[5])?))?;
+    turns.push(Turn::Nothing)?;
+    turns.push(Turn::Lose(0, 3))?;
+    turns.push(Turn::Reply(2, Bytes::copy_of(alloc, &[6])?))?;
+    Ok(turns)
 }
 
 #[test]
 fn script_link_follows_its_script(rt: HostRuntime) -> Result<(), Fail> {
     let alloc = rt.alloc();
     let url = Text::copy_of(alloc, "http://a")?;
-    let mut turns = List::new(alloc);
-    turns.push(Turn::Reply(1, Bytes::copy_of(alloc, &[5])?))?;
-    turns.push(Turn::Nothing)?;
-    turns.push(Turn::Lose(0, 3))?;
-    turns.push(Turn::Reply(2, Bytes::copy_of(alloc, &[6])?))?;
-    let mut link = ScriptLink::new(alloc, turns, numbers(alloc, &[1, 3])?)?;
-    link.start(call(0), &url, &[1])?;
-    assert_eq!(rt; link.start(call(1), &url, &[2]), Err(Fault::Failed));
-    link.start(call(1), &url, &[3])?;
-    assert!(rt; link.poll(0) == Err(Fault::Failed), "the turn stays");
-    let answer = Answered::Answer(Bytes::copy_of(alloc, &[5])?);
-    assert!(rt;
-        link.poll(0)?
-            == Some(Outcome {
-                call: call(1),
-                what: answer
-            })
-    );
-    assert!(rt; link.poll(0)? == None);
-    assert!(rt;
-        link.poll(0)?
-            == Some(Outcome {
-                call: call(0),
-                what: Answered::Lost(3)
-            })
-    );
-    assert!(rt; link.poll(0)? == None, "the third call was not started");
-    assert!(rt; link.poll(0)? == None, "the script is at its end");
+    let mut link = ScriptLink::new(alloc, script(alloc)?, numbers(alloc, &[1, 3])?)?;
+    for (turn, want) in [(0, Ok(())), (1, Err(Fault::Failed)), (1, Ok(()))] {
+        assert_eq!(rt; link.start(call(turn), &url, &[7]), want);
+    }
+    let rows = [
+        Err(Fault::Failed),
+        Ok(Some((1, false, 5))),
+        Ok(None),
+        Ok(Some((0, true, 3))),
+        Ok(None),
+        Ok(None),
+    ];
+    for want in rows {
+        check_poll(&rt, &mut link, want);
+    }
     assert_eq!(rt; link.journal().len(), 7);
     assert_eq!(rt; link.exchanges().len(), 1);
-    for exchange in link.exchanges().as_slice() {
-        assert!(rt; exchange.call == call(1));
-        assert_eq!(rt; exchange.request.as_slice(), [3].as_slice());
-    }
-    let mut steady = ScriptLink::steady(alloc, List::new(alloc))?;
-    assert!(rt; steady.poll(0)? == None);
+    Ok(())
+}
+
+#[test]
+fn a_steady_link(rt: HostRuntime) -> Result<(), Fail> {
+    let mut steady = ScriptLink::steady(rt.alloc(), List::new(rt.alloc()))?;
+    check_poll(&rt, &mut steady, Ok(None));
     Ok(())
 }
 
@@ -114,20 +168,11 @@ fn fixed_link_answers_each_call_once(rt: HostRuntime) -> Result<(), Fail> {
     let alloc = rt.alloc();
     let url = Text::copy_of(alloc, "http://a")?;
     let mut link = FixedLink::new(alloc, Bytes::copy_of(alloc, &[9])?);
-    assert!(rt; link.poll(0)? == None);
     link.start(call(0), &url, &[1])?;
     link.start(call(1), &url, &[2])?;
-    for turn in 0..2u32 {
-        let what = Answered::Answer(Bytes::copy_of(alloc, &[9])?);
-        assert!(rt;
-            link.poll(0)?
-                == Some(Outcome {
-                    call: call(turn),
-                    what
-                })
-        );
+    for want in [Some((0, false, 9)), Some((1, false, 9)), None] {
+        check_poll(&rt, &mut link, Ok(want));
     }
-    assert!(rt; link.poll(0)? == None);
     Ok(())
 }
 
@@ -166,78 +211,59 @@ fn writer_sink_tells_faults(rt: HostRuntime) -> Result<(), Fail> {
     ]?;
     let taken = Vec::new(alloc);
     let mut sink = WriterSink::new(Stubborn { answers, taken });
-    assert_eq!(rt;
-        sink.write(&[1]),
-        Err(Fault::OutOfMemory),
-        "after a write that a signal cut short"
-    );
-    assert_eq!(rt; sink.write(&[1]), Err(Fault::Failed), "it took nothing");
-    assert_eq!(rt; sink.write(&[1]), Err(Fault::Failed));
-    assert_eq!(rt; sink.write(&[1, 2])?, 1);
-    assert_eq!(rt; sink.write(&[])?, 0);
+    let rows: [(&[u8], Result<usize, Fault>); 5] = [
+        (&[1], Err(Fault::OutOfMemory)),
+        (&[1], Err(Fault::Failed)),
+        (&[1], Err(Fault::Failed)),
+        (&[1, 2], Ok(1)),
+        (&[], Ok(0)),
+    ];
+    for (bytes, want) in rows {
+        assert_eq!(rt; sink.write(bytes), want);
+    }
     assert_eq!(rt; sink.into_writer().taken.as_slice(), [1].as_slice());
     Ok(())
 }
 
-fn log(alloc: Global, records: &[(&str, &[u8])]) -> Result<Bytes, Fail> {
+fn log(alloc: Global, keys: &[&str]) -> Result<Bytes, OutOfMemory> {
     let mut log = Bytes::new(alloc);
-    for (key, value) in records {
-        let message = record(alloc, key, value)?;
+    for key in keys {
+        let message = record(alloc, key)?;
         put_varint(&mut log, message.size())?;
         log = message.put(log)?;
     }
     Ok(log)
 }
 
+const FOLDER: &str = "sf_outside_logs";
+
+const LOG: &str = "sf_outside_logs/split-0.log";
+
+const BAD_LOG: &str = "sf_outside_logs/split-7.log";
+
 #[test]
 fn folder_ingress_reads_logs(rt: HostRuntime) -> Result<(), Fail> {
     let alloc = rt.alloc();
-    let folder = "sf_outside_test_logs";
-    let _ = fs::remove_dir_all(&rt, folder);
-    let mut ingress = FolderIngress::new(alloc, &rt, Text::copy_of(alloc, folder)?);
-    assert!(rt;
-        ingress.read(0, 0) == Err(Fault::Failed),
-        "there is no folder"
-    );
-    fs::create_dir(&rt, folder)?;
-    assert!(rt; ingress.read(0, 0)? == None, "there is no file");
-    let whole = log(alloc, &[("a", &[1]), ("", &[]), ("c/d", &[3])])?;
-    let bytes = whole.as_slice();
-    assert!(rt; bytes.len() > 2);
-    fs::write(
-        &rt,
-        "sf_outside_test_logs/split-0.log",
-        &bytes[..bytes.len() - 2],
-    )?;
-    fs::write(
-        &rt,
-        "sf_outside_test_logs/split-7.log",
-        [2, 0x0a, 1].as_slice(),
-    )?;
-    assert!(rt; ingress.read(0, 0)? == Some(record(alloc, "a", &[1])?));
-    assert!(rt; ingress.read(0, 1)? == Some(record(alloc, "", &[])?));
-    assert!(rt; ingress.read(0, 2)? == None, "it is cut");
-    fs::write(&rt, "sf_outside_test_logs/split-0.log", bytes)?;
-    assert!(rt;
-        ingress.read(0, 2)? == Some(record(alloc, "c/d", &[3])?),
-        "it went on"
-    );
-    assert!(rt; ingress.read(0, 3)? == None);
-    assert!(rt;
-        ingress.read(0, 0)? == Some(record(alloc, "a", &[1])?),
-        "read again"
-    );
-    assert!(rt;
-        ingress.read(0, 2)? == Some(record(alloc, "c/d", &[3])?),
-        "one passed over"
-    );
-    assert!(rt; ingress.read(0, u64::MAX)? == None);
-    assert!(rt;
-        ingress.read(7, 0) == Err(Fault::Failed),
-        "its key passes the end"
-    );
-    assert!(rt; ingress.read(7, 0) == Err(Fault::Failed));
-    fs::remove_dir_all(&rt, folder)?;
+    let _ = fs::remove_dir_all(&rt, FOLDER);
+    let mut ingress = FolderIngress::new(alloc, &rt, Text::copy_of(alloc, FOLDER)?);
+    check_read(&rt, &mut ingress, 0, 0, Err(Fault::Failed));
+    fs::create_dir(&rt, FOLDER)?;
+    check_read(&rt, &mut ingress, 0, 0, Ok(None));
+    fs::write(&rt, LOG, log(alloc, &["a", ""])?.as_slice())?;
+    fs::write(&rt, BAD_LOG, [2, 0x0a, 1].as_slice())?;
+    let rows: [(u32, u64, Want); 7] = [
+        (0, 0, Ok(Some("a"))),
+        (0, 1, Ok(Some(""))),
+        (0, 2, Ok(None)),
+        (7, 0, Err(Fault::Failed)),
+        (0, 0, Ok(Some("a"))),
+        (7, 0, Err(Fault::Failed)),
+        (0, u64::MAX, Ok(None)),
+    ];
+    for (split, offset, want) in rows {
+        check_read(&rt, &mut ingress, split, offset, want);
+    }
+    fs::remove_dir_all(&rt, FOLDER)?;
     Ok(())
 }
 
@@ -281,23 +307,22 @@ impl Seek for Halting<'_> {
 #[test]
 fn a_failed_read_loses_nothing(rt: HostRuntime) -> Result<(), Fail> {
     let alloc = rt.alloc();
-    let whole = log(alloc, &[("a", &[1]), ("b", &[2])])?;
-    let bytes = whole.as_slice();
+    let whole = log(alloc, &["a", "b"])?;
     let file = Halting {
-        bytes,
+        bytes: whole.as_slice(),
         at: 0,
         fails: false,
     };
     let mut split = SplitLog::new(alloc, file);
-    for (offset, key, value) in [(0u64, "a", 1u8), (1, "b", 2), (0, "a", 1)] {
-        let mut found = None;
-        for _ in 0..64 {
-            if let Ok(read) = split.read(alloc, offset) {
-                found = read;
+    for (offset, key) in [(0u64, "a"), (1, "b"), (0, "a")] {
+        let mut found = Ok(None);
+        for _ in 0..64u8 {
+            found = split.read(alloc, offset);
+            if found.is_ok() {
                 break;
             }
         }
-        assert!(rt; found == Some(record(alloc, key, &[value])?), "at {offset}");
+        assert!(rt; found == Ok(Some(record(alloc, key)?)), "at {offset}");
     }
     Ok(())
 }
