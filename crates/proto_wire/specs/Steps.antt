@@ -48,6 +48,9 @@ both false b h = absurd cc
 pub fit-both : (a b : Bool) → (a && b) ≡ true → (a ≡ true) × (b ≡ true)
 fit-both a b h = both a b h
 
+pub len-both : (a b : List ℕ) → length (a ++ b) < 2 ^ 64 → (length a < 2 ^ 64) × (length b < 2 ^ 64)
+len-both a b h = (omega (arith, length-append a b), omega (arith, length-append a b))
+
 -- ---- the kinds
 
 -- what is left of `accepted` at a record of the field
