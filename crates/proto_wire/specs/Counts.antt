@@ -1,8 +1,7 @@
 -- How long spellings are at least.
-use Rattle.std.proofs.Common.{◌≡◌, ℕ, zero, suc, ◌+◌, ◌%◌, ◌/◌, ◌<◌, ◌≤◌, Bool, true, false, cond, ltb, List, [], ◌∷◌, ◌++◌, length, arith, length-append, ◌*◌}
+use Rattle.std.proofs.Common.{ℕ, zero, suc, ◌+◌, ◌≤◌, Bool, true, false, cond, ltb, List, [], ◌∷◌, length, arith, length-append, ◌*◌}
 use Rattle.proto_wire.specs.Varint.{groups_of, varint}
-use Rattle.proto_wire.specs.Record.{bytes_record}
-use Rattle.proto_wire.specs.Message.{Row, spelling, spelled_messages}
+use Rattle.proto_wire.specs.Message.{Row, spelled_messages}
 
 some-cond : (b : Bool) (x y : List ℕ) → 1 ≤ length x → 1 ≤ length y → 1 ≤ length (cond b x y)
 some-cond true x y p q = p

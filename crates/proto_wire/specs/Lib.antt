@@ -4,3 +4,6 @@ pub mod Record
 pub mod Seen
 pub mod Message
 pub mod Counts
+pub mod Again
+pub mod Scans
+pub mod Steps

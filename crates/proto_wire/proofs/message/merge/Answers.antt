@@ -2,7 +2,7 @@ use Rattle.std.proofs.Common.{◌<◌, ◌∙◌, sym, length, arith}
 use Rattle.std.proofs.lemmas.Bool.Decides.{nat_tests}
 use Rattle.std.proofs.lemmas.Result.{err_from_is_err_and}
 use Rattle.proto_wire.specs.Seen.{item_of}
-use Rattle.proto_wire.proofs.Scans.{value_in-end, value_in-broken, value_in-accepted, value_in-refused, record_in-shortest}
+use Rattle.proto_wire.specs.Scans.{value_in-end, value_in-broken, value_in-accepted, value_in-refused, record_in-shortest}
 use Rattle.proto_wire.proofs.message.merge.Goals as goal
 
 pub loop-rest-preserved : goal.loop-rest-preserved
