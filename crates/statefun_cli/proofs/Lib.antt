@@ -6,3 +6,4 @@ pub mod Numbers
 pub mod PlainJob
 pub mod Appended
 pub mod Written
+pub mod Runs

@@ -4,3 +4,4 @@ pub mod Progress
 pub mod Making
 pub mod Words
 pub mod Ends
+pub mod Running

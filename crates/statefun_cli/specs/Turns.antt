@@ -1,5 +1,6 @@
 -- The turns of a run without a folder, over what was heard in each of them.
-use Rattle.std.specs.Prelude.{◌≡◌, ℕ, ◌+◌, ◌≤◌, nat_eq, nat_le, List, [], ◌∷◌, ◌++◌, length, Bool, true, false, ◌&&◌, if◌then◌else◌, Option, Some, None, map, unwrap_or, IfSome}
+use Rattle.std.specs.Prelude.{◌≡◌, ℕ, ◌+◌, ◌≤◌, nat_eq, nat_le, List, [], ◌∷◌, ◌++◌, length, Bool, true, false, ◌&&◌, if◌then◌else◌, Option, Some, None, map, unwrap_or}
+use Rattle.std.specs.Option.{option_to_list}
 use Rattle.sf_outside.specs.declared.call.Call.{Call}
 use Rattle.sf_outside.specs.declared.call.Answered.{Answered}
 use Rattle.sf_outside.specs.declared.call.Answered.TheVariants.{Answer, Lost as NoAnswer}
@@ -179,22 +180,24 @@ turned m patience turn heard work = let read = work_read m turn heard.read work 
 abbrev pub behind : List LinkEvent → Turned → Turned
 behind events later = record { work = later.work; events = events ++ later.events; status = later.status }
 
-abbrev pub go_on : Turned → (Work → Turned) → Turned
-go_on first later = go_by first.status
-  where
-    go_by : Status → Turned
-    go_by Going = behind first.events (later first.work)
-    go_by Cut = first
-    go_by (Ended by) = first
+abbrev pub go_on : Status → Turned → (Work → Turned) → Turned
+go_on Going first later = behind first.events (later first.work)
+go_on Cut first later = first
+go_on (Ended by) first later = first
 
 -- the turns from this number on, one after the other, as long as the run goes on
 unfoldable pub turns_from : Module → ℕ → ℕ → List Heard → Work → Turned
 turns_from m patience turn [] work = record { work = work; events = []; status = Going }
-turns_from m patience turn (heard ∷ later) work = go_on (turned m patience turn heard work) (turns_from m patience (turn + 1) later)
+turns_from m patience turn (heard ∷ later) work = let first = turned m patience turn heard work in go_on first.status first (turns_from m patience (turn + 1) later)
 
 -- the turns of a run
 unfoldable pub turns_of : Module → ℕ → List Heard → Turned
 turns_of m patience heard = turns_from m patience 1 heard no_work
+
+-- the records that were read in the turns
+abbrev pub records_heard : List Heard → List IngressRecord
+records_heard [] = []
+records_heard (heard ∷ later) = option_to_list heard.read ++ records_heard later
 
 -- the polls of a call end with what they tell of it, and are no more than its patience allows
 pub record AreItsPolls (patience : ℕ) (call : Call) (polls : List (Option Outcome)) : Type 0 where

@@ -2,6 +2,7 @@
 #![tactic(auto)]
 
 mod asking;
+mod drive;
 mod end;
 mod line;
 mod output;
