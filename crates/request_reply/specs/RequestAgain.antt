@@ -1,9 +1,8 @@
 -- The spellings of a request's messages are read as them.
-use Rattle.std.proofs.Common.{◌≡◌, ℕ, ◌+◌, ◌^◌, ◌<◌, Bool, true, false, ltb, ◌&&◌, pos, List, [], ◌∷◌, ◌++◌, length, Option, Some, None, refl, lit<, lit≤}
+use Rattle.std.proofs.Common.{true, ◌&&◌, [], ◌++◌, None, refl, lit<, lit≤}
 use Rattle.std.specs.Str.{is_utf8}
-use Rattle.proto_wire.specs.Record.{bytes_record}
-use Rattle.proto_wire.specs.Message.{belongs, spelling, fit, spelled_bytes, spelled_number, spelled_bool, spelled_signed, spelled_message, spelled_messages, fits_signed, fit_message, fit_messages}
-use Rattle.proto_wire.specs.Steps.{IsAgain, fit-both, len-both, steps-nil, steps-then, steps-whole, texts-steps, bytes-steps, bools-steps, enums-steps, longs-steps, numbers-steps, messages-steps, lists-steps, members-steps}
+use Rattle.proto_wire.specs.Message.{belongs, spelled_bytes, spelled_message, spelled_messages, fit_message, fit_messages}
+use Rattle.proto_wire.specs.Steps.{IsAgain, fit-both, len-both, steps-nil, steps-then, steps-whole, texts-steps, messages-steps, lists-steps}
 use Rattle.typed_values.specs.Tables.{empty_address, address_rows, empty_value, value_rows}
 use Rattle.typed_values.specs.Again.{address-again, value-again}
 use Rattle.request_reply.specs.declared.request.PersistedValue.{PersistedValue}

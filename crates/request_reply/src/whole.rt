@@ -1,5 +1,7 @@
 //! Whole requests and answers: reading, writing and their sizes.
-ghost use Rattle.std.specs.Prelude.{◌≡◌, ◌++◌, length, IfOk};
+ghost use Rattle.std.specs.Prelude.{◌≡◌, ◌++◌, length, IfOk, Ok};
+ghost use Rattle.request_reply.specs.declared.request.ToFunction.TheVariants.{Invocation};
+ghost use Rattle.request_reply.specs.declared.answer.FromFunction.TheVariants.{Result, Incomplete};
 ghost use Rattle.proto_wire.specs.declared.fault.DecodeFault.TheVariants.{Wire};
 ghost use Rattle.proto_wire.specs.declared.fault.WireKind.TheVariants.{NoMember};
 ghost use Rattle.proto_wire.specs.Reads.{Gives};
@@ -7,7 +9,10 @@ ghost use Rattle.proto_wire.specs.Message.{capped};
 ghost use Rattle.request_reply.specs.Oneofs.{no_request, to_rows, no_answer, from_rows};
 ghost use Rattle.request_reply.specs.Spelling.{to_spelling, from_spelling, to_value, from_value};
 
-use crate::{FromFunction, ToFunction};
+use crate::{
+    FromFunction, IncompleteInvocationContext, InvocationBatchRequest, InvocationResponse,
+    ToFunction,
+};
 use proto_wire::{
     Bytes, DecodeFault, Mem, Message, Record, WireFault, WireKind, joined, member_size, merge,
     with_member,
@@ -114,24 +119,54 @@ impl Message for FromRead {
     }
 }
 
-/// The canonical spelling of a request.
-#[tactic(auto, unfolding(crate::specs::Spelling::to_spelling, crate::specs::Oneofs::to_rows, crate::specs::Oneofs::batch_of, proto_wire::specs::Message::spelled_message))]
+/// The canonical spelling of a request. Decoding it gives the request again.
 pub fn encode_to(alloc: Global, value: &ToFunction) -> Mem<Bytes>
-    ensures { IfOk result (λ b. b ≡ to_spelling value.now) }
+    ensures spelled { IfOk result (λ b. b ≡ to_spelling value.now) }
+    ensures again { IfOk result (λ b. to_value b ≡ Ok value.now) }
 {
     let ToFunction::Invocation(batch) = value;
-    with_member(Bytes::new(alloc), 100, batch)
+    invocation(alloc, batch)
 }
 
-/// The canonical spelling of an answer.
-#[tactic(auto, unfolding(crate::specs::Spelling::from_spelling, crate::specs::Oneofs::from_rows, crate::specs::Oneofs::response_of, crate::specs::Oneofs::context_of, proto_wire::specs::Message::spelled_message))]
+#[tactic(auto, unfolding(crate::specs::Spelling::to_spelling, crate::specs::Oneofs::to_rows, crate::specs::Oneofs::batch_of, proto_wire::specs::Message::spelled_message))]
+fn invocation(alloc: Global, batch: &InvocationBatchRequest) -> Mem<Bytes>
+    ensures spelled { IfOk result (λ b. b ≡ to_spelling (Invocation batch.now)) }
+    ensures again { IfOk result (λ b. to_value b ≡ Ok (Invocation batch.now)) }
+{
+    let bytes = with_member(Bytes::new(alloc), 100, batch)?;
+    let _len = bytes.len();
+    Ok(bytes)
+}
+
+/// The canonical spelling of an answer. Decoding it gives the answer again.
 pub fn encode_from(alloc: Global, value: &FromFunction) -> Mem<Bytes>
-    ensures { IfOk result (λ b. b ≡ from_spelling value.now) }
+    ensures spelled { IfOk result (λ b. b ≡ from_spelling value.now) }
+    ensures again { IfOk result (λ b. from_value b ≡ Ok value.now) }
 {
     match value {
-        FromFunction::Result(response) => with_member(Bytes::new(alloc), 100, response),
-        FromFunction::Incomplete(context) => with_member(Bytes::new(alloc), 101, context),
+        FromFunction::Result(response) => served(alloc, response),
+        FromFunction::Incomplete(context) => incomplete(alloc, context),
     }
+}
+
+#[tactic(auto, unfolding(crate::specs::Spelling::from_spelling, crate::specs::Oneofs::from_rows, crate::specs::Oneofs::response_of, crate::specs::Oneofs::context_of, proto_wire::specs::Message::spelled_message))]
+fn served(alloc: Global, response: &InvocationResponse) -> Mem<Bytes>
+    ensures spelled { IfOk result (λ b. b ≡ from_spelling (Result response.now)) }
+    ensures again { IfOk result (λ b. from_value b ≡ Ok (Result response.now)) }
+{
+    let bytes = with_member(Bytes::new(alloc), 100, response)?;
+    let _len = bytes.len();
+    Ok(bytes)
+}
+
+#[tactic(auto, unfolding(crate::specs::Spelling::from_spelling, crate::specs::Oneofs::from_rows, crate::specs::Oneofs::response_of, crate::specs::Oneofs::context_of, proto_wire::specs::Message::spelled_message))]
+fn incomplete(alloc: Global, context: &IncompleteInvocationContext) -> Mem<Bytes>
+    ensures spelled { IfOk result (λ b. b ≡ from_spelling (Incomplete context.now)) }
+    ensures again { IfOk result (λ b. from_value b ≡ Ok (Incomplete context.now)) }
+{
+    let bytes = with_member(Bytes::new(alloc), 101, context)?;
+    let _len = bytes.len();
+    Ok(bytes)
 }
 
 /// The length of the canonical spelling of a request, or `u64::MAX` where it is greater. Takes no memory.
