@@ -28,7 +28,8 @@ use Rattle.statefun_cli.specs.Turns.{Heard, Work, Status, Going, Cut, Ended, Tur
 use Rattle.statefun_cli.specs.Polling.{IsOwnAnswer}
 use Rattle.sf_outside.specs.declared.fault.Fault.{Fault}
 use Rattle.sf_outside.specs.declared.fault.Fault.TheVariants as faults
-use Rattle.statefun_cli.specs.Progress.{IsFront, IsEndOf, IsTurnEnd}
+use Rattle.statefun_cli.specs.Progress.{IsFront, IsEndOf, IsTurnEnd, IsTextOf, IsTurnText}
+use Rattle.run_record.specs.Egress.{egress_of, egress_text}
 use Rattle.statefun_cli.specs.Making.{IsTurnMade}
 use Rattle.statefun_cli.specs.Running.{IsProper, AreProper, IsRun, IsRunEnd, is_done, ingress_end}
 
@@ -344,3 +345,11 @@ grown_itself (Some told) = λ split. ([], sym (append-nil (split_of told split))
 pub ends_spent : (m : Module) (patience turns made : ℕ) (lists : Option Lists) (before after : Option (List LinkEvent)) (exchanges : List Exchange) (work : Work) → made ≡ turns → RunsSo m patience made lists before after exchanges work → IsRun m patience turns lists before after exchanges work.entries (TurnsSpent work.taken)
 ends_spent m patience turns made lists before after exchanges work e so =
     ends_at m patience turns made lists lists before after exchanges work (TurnsSpent work.taken) (omega (arith, e)) refl so (grown_itself lists) (λ t g w. (g, e, ap (λ (x : Work). x.taken) w, ap (λ (x : Work). x.entries) w))
+
+-- a run that has done nothing has no text
+pub text_none : (m : Module) (text : List ℕ) (work : Work) → text ≡ [] → work ≡ no_work → IsTextOf m text work.entries
+unfolding egress_of egress_text
+text_none m text work e w = e ∙ ap (λ (x : Work). egress_text (egress_of m x.entries)) (sym w)
+
+pub text_kept : (m : Module) (text : List ℕ) (entries : List Entry) → IsTurnText m text entries None → IsTextOf m text entries
+text_kept m text entries e = e
