@@ -7,3 +7,4 @@ pub mod PlainJob
 pub mod Appended
 pub mod Written
 pub mod Runs
+pub mod Beginning

@@ -30,8 +30,8 @@ use Rattle.sf_outside.specs.declared.fault.Fault.{Fault}
 use Rattle.sf_outside.specs.declared.fault.Fault.TheVariants as faults
 use Rattle.statefun_cli.specs.Progress.{IsFront, IsEndOf, IsTurnEnd, IsTextOf, IsTurnText}
 use Rattle.run_record.specs.Egress.{egress_of, egress_text}
-use Rattle.statefun_cli.specs.Making.{IsTurnMade}
-use Rattle.statefun_cli.specs.Running.{IsProper, AreProper, IsRun, IsRunEnd, is_done, ingress_end}
+use Rattle.statefun_cli.specs.Making.{IsTurnMade, IsTurnsOwn}
+use Rattle.statefun_cli.specs.Running.{IsProper, AreProper, IsRun, IsRunEnd, is_done, ingress_end, IsNoSinkFault}
 
 -- ---- one more turn
 
@@ -316,7 +316,7 @@ ends_in m patience turns made lists before after exchanges read work new end few
 }
 
 -- the run ended between two turns
-ends_at : (m : Module) (patience turns made : ℕ) (lists lists' : Option Lists) (before after : Option (List LinkEvent)) (exchanges : List Exchange) (work : Work) (end : PlainEnd) → made ≤ turns → is_done end ≡ false → RunsSo m patience made lists before after exchanges work → Grows lists lists'
+pub ends_at : (m : Module) (patience turns made : ℕ) (lists lists' : Option Lists) (before after : Option (List LinkEvent)) (exchanges : List Exchange) (work : Work) (end : PlainEnd) → made ≤ turns → is_done end ≡ false → RunsSo m patience made lists before after exchanges work → Grows lists lists'
     → ((t : Turned) → t.status ≡ Going → work ≡ t.work → IsRunEnd t turns made work.entries end) → IsRun m patience turns lists' before after exchanges work.entries end
 ends_at m patience turns made lists lists' before after exchanges work end few d so grows is =
     let all : so.heard ++ [] ≡ so.heard = append-nil so.heard in
@@ -337,7 +337,7 @@ pub ends_unread : (m : Module) (patience turns made : ℕ) (lists lists' : Optio
 ends_unread m patience turns made lists lists' before after exchanges work faults.Failed few so grows = ends_at m patience turns made lists lists' before after exchanges work IngressFault few refl so grows (λ t g w. ([], ap (λ (x : Work). x.entries) (sym w) ∙ sym (append-nil work.entries)))
 ends_unread m patience turns made lists lists' before after exchanges work faults.OutOfMemory few so grows = ends_at m patience turns made lists lists' before after exchanges work OutOfMemory few refl so grows (λ t g w. ([], ap (λ (x : Work). x.entries) (sym w) ∙ sym (append-nil work.entries)))
 
-grown_itself : (lists : Option Lists) → Grows lists lists
+pub grown_itself : (lists : Option Lists) → Grows lists lists
 grown_itself None = tt
 grown_itself (Some told) = λ split. ([], sym (append-nil (split_of told split)))
 
@@ -353,3 +353,13 @@ text_none m text work e w = e ∙ ap (λ (x : Work). egress_text (egress_of m x.
 
 pub text_kept : (m : Module) (text : List ℕ) (entries : List Entry) → IsTurnText m text entries None → IsTextOf m text entries
 text_kept m text entries e = e
+
+pub no_sink_from : (end : PlainEnd) → IsTurnsOwn (Some end) → IsNoSinkFault end
+no_sink_from (Done taken) h = tt
+no_sink_from (Usage word) h = tt
+no_sink_from (TurnsSpent taken) h = tt
+no_sink_from (EndpointFailed address reasons) h = tt
+no_sink_from IngressFault h = tt
+no_sink_from LinkFault h = tt
+no_sink_from SinkFault h = absurd h
+no_sink_from OutOfMemory h = tt

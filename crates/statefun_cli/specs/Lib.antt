@@ -5,3 +5,4 @@ pub mod Making
 pub mod Words
 pub mod Ends
 pub mod Running
+pub mod Plain

@@ -67,3 +67,8 @@ IsLinkCauseOf before now end = now ≡ before
 abbrev pub ingress_end : Fault → PlainEnd
 ingress_end faults.Failed = IngressFault
 ingress_end faults.OutOfMemory = OutOfMemory
+
+-- any end but a fault of the sink
+abbrev pub IsNoSinkFault : PlainEnd → Type 0
+IsNoSinkFault SinkFault = ⊥
+IsNoSinkFault end = Unit {0}

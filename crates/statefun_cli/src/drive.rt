@@ -5,7 +5,7 @@ ghost use Rattle.sf_outside.specs.Answers.{Extends};
 ghost use Rattle.run_record.specs.Routing.{splits_in};
 ghost use Rattle.statefun_cli.specs.Turns.{no_work};
 ghost use Rattle.statefun_cli.specs.Progress.{work_of, IsTurnText, ends_lost};
-ghost use Rattle.statefun_cli.specs.Running.{IsRun, IsIngressCauseOf, IsLinkCauseOf, ingress_end};
+ghost use Rattle.statefun_cli.specs.Running.{IsRun, IsIngressCauseOf, IsLinkCauseOf, IsNoSinkFault, ingress_end};
 
 use crate::PlainEnd;
 use crate::progress::Progress;
@@ -33,6 +33,7 @@ pub(crate) fn drive<I: Ingress, L: Link>(
     ensures losses { L.losses link.old ≤ L.losses link.new }
     ensures lost { ends_lost (Some result) ≡ true → Rose (L.losses link.old) (L.losses link.new) }
     ensures ingress_cause { IsIngressCauseOf (I.faults ingress.old) (I.faults ingress.new) result }
+    ensures no_sink { IsNoSinkFault result }
     ensures link_cause { IsLinkCauseOf (L.faults link.old) (L.faults link.new) result }
 {
     for made in 0..turns {

@@ -8,6 +8,7 @@ mod line;
 mod output;
 mod polling;
 mod progress;
+mod run;
 mod turn;
 #[cfg(test)]
 mod word_tests;
@@ -16,4 +17,5 @@ mod words;
 pub use end::{PlainEnd, PlainRun};
 pub use line::put_decimal;
 pub use output::write_whole;
+pub use run::statefun_run;
 pub use words::{Plan, WordsFault, read_words};

@@ -3,9 +3,9 @@ use Rattle.sf_outside.specs.Answers.{Extends-none, Extends-then}
 use Rattle.statefun_cli.specs.declared.end.PlainEnd.{PlainEnd}
 use Rattle.statefun_cli.specs.declared.turn.TheConstants.{PATIENCE}
 use Rattle.statefun_cli.specs.Turns.{Work}
-use Rattle.statefun_cli.specs.Making.{IsLinkCause}
+use Rattle.statefun_cli.specs.Making.{IsLinkCause, IsTurnsOwn}
 use Rattle.statefun_cli.specs.Progress.{work_of, IsTurnText}
-use Rattle.statefun_cli.proofs.Runs.{OneMore, RunsSo-none, one_more, goes_on, ends_in, ends_unread, text_none}
+use Rattle.statefun_cli.proofs.Runs.{OneMore, RunsSo-none, one_more, goes_on, ends_in, ends_unread, text_none, no_sink_from}
 use Rattle.statefun_cli.proofs.drive.drive.Goals as goal
 
 pub loop-made-init : goal.loop-made-init
@@ -40,3 +40,6 @@ loop-made-preserved g c = record {
   ingress_faults = c.in-Ok.ensures.cause ∙ c.loop-made.invariant.ingress_faults;
   link_faults = subst (λ (e : Option PlainEnd). IsLinkCause (g.L.Link.faults c.loop-made.link) (g.L.Link.faults c.make_turn.new.link) e) c.in_default.is c.make_turn.ensures.cause ∙ c.loop-made.invariant.link_faults;
 }
+
+pub returns-in-Some-clause-no_sink : goal.returns-in-Some-clause-no_sink
+returns-in-Some-clause-no_sink g c = no_sink_from _ (subst (λ (e : Option PlainEnd). IsTurnsOwn e) c.in-Some.is c.make_turn.ensures.own)
