@@ -1,5 +1,30 @@
-use Rattle.std.specs.Prelude.{ℕ, List, []}
+-- The canonical spellings, and the values that bytes spell.
+use Rattle.std.specs.Prelude.{ℕ, List, length, Option, None, Some, Result, Ok, Err}
+use Rattle.proto_wire.specs.declared.fault.WireFault.{WireFault}
+use Rattle.proto_wire.specs.declared.fault.WireKind.TheVariants.{NoMember}
+use Rattle.proto_wire.specs.Varint.{◌>>=◌}
+use Rattle.proto_wire.specs.Message.{spelling, value_in}
 use Rattle.request_reply.specs.declared.request.ToFunction.{ToFunction}
+use Rattle.request_reply.specs.declared.answer.FromFunction.{FromFunction}
+use Rattle.request_reply.specs.Oneofs.{no_request, to_rows, no_answer, from_rows}
 
+-- the canonical spelling of a request
 unfoldable pub to_spelling : ToFunction → List ℕ
-to_spelling value = []
+to_spelling request = spelling to_rows (record { member = Some request })
+
+-- the canonical spelling of an answer
+unfoldable pub from_spelling : FromFunction → List ℕ
+from_spelling answer = spelling from_rows (record { member = Some answer })
+
+-- a member has to be there; the fault is placed at the end of the input
+abbrev pub present : {A : Type 0} → ℕ → Option A → Result A WireFault
+present end (Some value) = Ok value
+present end None = Err (record { kind = NoMember; at = end })
+
+-- the request that the bytes spell, or their first fault
+unfoldable pub to_value : List ℕ → Result ToFunction WireFault
+to_value bytes = value_in to_rows no_request (length bytes) bytes >>= λ read. present (length bytes) read.member
+
+-- the answer that the bytes spell, or their first fault
+unfoldable pub from_value : List ℕ → Result FromFunction WireFault
+from_value bytes = value_in from_rows no_answer (length bytes) bytes >>= λ read. present (length bytes) read.member

@@ -1,2 +1,7 @@
+pub mod Turns
+pub mod Polling
+pub mod Progress
+pub mod Making
 pub mod Words
 pub mod Ends
+pub mod Running

@@ -1,9 +1,14 @@
 //! The commands of `statefun`.
 #![tactic(auto)]
 
+mod asking;
+mod drive;
 mod end;
 mod line;
 mod output;
+mod polling;
+mod progress;
+mod turn;
 #[cfg(test)]
 mod word_tests;
 mod words;

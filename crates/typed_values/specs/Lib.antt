@@ -1,2 +1,4 @@
 pub mod Sameness
 pub mod Names
+pub mod Tables
+pub mod Again

@@ -4,6 +4,7 @@
 mod address;
 mod cell;
 mod letter;
+mod messages;
 mod name;
 mod parse;
 mod record;
