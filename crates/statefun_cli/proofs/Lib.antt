@@ -6,5 +6,6 @@ pub mod Numbers
 pub mod PlainJob
 pub mod Appended
 pub mod Written
+pub mod FirstWrong
 pub mod Runs
 pub mod Beginning

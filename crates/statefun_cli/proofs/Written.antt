@@ -1,5 +1,5 @@
 -- What is told of a sink after one more write.
-use Rattle.std.proofs.Common.{◌≡◌, ℕ, ◌+◌, List, ◌++◌, take, drop, refl, sym, ap, ◌∙◌, Option, Some, None, append_assoc}
+use Rattle.std.proofs.Common.{◌≡◌, ℕ, ◌+◌, List, ◌++◌, take, drop, refl, ap, Option, Some, None, append_assoc}
 use Rattle.std.proofs.Math.Seq.{take-add}
 use Rattle.sf_outside.specs.Told.{more}
 

@@ -1,4 +1,4 @@
-use Rattle.std.proofs.Common.{arith, rules, ◌∙◌}
+use Rattle.std.proofs.Common.{arith, ◌∙◌}
 use Rattle.statefun_cli.proofs.Written.{written-more}
 use Rattle.statefun_cli.proofs.output.write_whole.Goals as goal
 
