@@ -12,7 +12,7 @@ use Rattle.run_record.specs.Queues.{ChangesIn, SetsAt}
 use Rattle.run_record.specs.Machine.{Mail, invocation_of, picked_behind, picked, unpicked}
 
 -- how often a sender is picked, one pick further on
-count-push : (sender pick : Sender) (picks : List Sender) → count_by (same_sender sender) (picks ++ pick ∷ []) ≡ count_by (same_sender sender) picks + cond (same_sender sender pick) 1 0
+pub count-push : (sender pick : Sender) (picks : List Sender) → count_by (same_sender sender) (picks ++ pick ∷ []) ≡ count_by (same_sender sender) picks + cond (same_sender sender pick) 1 0
 count-push sender pick picks = sum_by-append (λ x. cond (same_sender sender x) 1 0) picks (pick ∷ []) ∙ ap (λ n. count_by (same_sender sender) picks + n) (zero-add (cond (same_sender sender pick) 1 0))
 
 pub same_itself : (sender : Sender) → same_sender sender sender ≡ true

@@ -11,6 +11,7 @@ mod numbers;
 mod picking;
 mod placing;
 mod queue;
+mod requesting;
 mod routes;
 mod shelf;
 mod shelves;
