@@ -1,5 +1,5 @@
 pub mod Behind
 pub mod Templates
 pub mod Picks
-pub mod Effects
+pub mod Kept
 pub mod Requests

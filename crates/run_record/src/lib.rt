@@ -1,6 +1,7 @@
 //! The run record, and what it means: the plain sequential machine.
 #![tactic(auto)]
 
+mod effects;
 mod egress;
 mod entry;
 mod key;
