@@ -3,3 +3,4 @@ pub mod Templates
 pub mod Picks
 pub mod Kept
 pub mod Requests
+pub mod Serving

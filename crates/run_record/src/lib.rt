@@ -1,6 +1,7 @@
 //! The run record, and what it means: the plain sequential machine.
 #![tactic(auto)]
 
+mod applying;
 mod effects;
 mod egress;
 mod entry;
