@@ -4,3 +4,4 @@ pub mod Picks
 pub mod Kept
 pub mod Requests
 pub mod Serving
+pub mod Known
