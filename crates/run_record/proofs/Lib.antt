@@ -5,3 +5,4 @@ pub mod Kept
 pub mod Requests
 pub mod Serving
 pub mod Known
+pub mod Orders

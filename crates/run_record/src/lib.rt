@@ -8,6 +8,7 @@ mod entry;
 mod key;
 mod laws;
 mod machine;
+mod merging;
 mod module;
 mod numbers;
 mod picking;
@@ -23,6 +24,7 @@ pub use egress::{put_address, put_egress_line, put_egress_text, put_escaped, put
 pub use entry::{Entry, Reply, Step};
 pub use laws::{each_record_is_taken_once, letters_are_delivered_in_order, records_are_taken_in_order};
 pub use machine::Machine;
+pub use merging::merge;
 pub use module::{Endpoint, IngressSpec, Module, TypePattern};
 pub use replaying::{ReplayFault, Replayed, replay};
 pub use routes::Routes;
