@@ -81,16 +81,16 @@ letters_at : (letters : List Letter) (sender : Sender) (target : Address) → va
 unfolding arguments_of
 letters_at letters sender target =
     same_values (is_placed address_order sender_order target sender) (λ (letter : Letter). same_sender letter.sender sender && same_address letter.target target) placed_letter (λ (letter : Letter). letter) (λ (item : Placed Address Sender TypedValue). item.value) (λ (letter : Letter). letter.argument) letters
-      (λ letter. swapped (is_eq (address_order letter.target target)) (is_eq (sender_order letter.sender sender)) (same_sender letter.sender sender) (same_address letter.target target) (address_test letter.target target) (sender_test letter.sender sender))
-      (λ letter. refl)
+    (λ letter. swapped (is_eq (address_order letter.target target)) (is_eq (sender_order letter.sender sender)) (same_sender letter.sender sender) (same_address letter.target target) (address_test letter.target target) (sender_test letter.sender sender))
+    (λ letter. refl)
     ∙ ap (λ xs. map (λ (letter : Letter). letter.argument) (filter (λ (letter : Letter). same_sender letter.sender sender && same_address letter.target target) xs)) (map-id letters)
 
 messages_at : (address : Address) (messages : List EgressMessage) (other : Address) (egress : TypeName) → values_at address_order name_order (map (placed_message address) messages) other egress ≡ arguments_at other egress (map (egress_record address) messages)
 unfolding arguments_at
 messages_at address messages other egress =
     same_values (is_placed address_order name_order other egress) (is_between other egress) (placed_message address) (egress_record address) (λ (item : Placed Address TypeName TypedValue). item.value) (λ (r : EgressRecord). r.argument) messages
-      (λ message i. address_test address other i && name_test (egress_name message) egress i)
-      (λ message. refl)
+    (λ message i. address_test address other i && name_test (egress_name message) egress i)
+    (λ message. refl)
 
 -- ---- mail and egress
 
@@ -144,6 +144,7 @@ posted_before address picks letters before posted left there was is sender targe
   where
     here : posted sender target ≡ before sender target ++ arguments_of sender target letters
     here = was sender target ∙ posted_all-is before letters sender target
+
     go : (b : Bool) → same_address address target ≡ b → cond b (drop (count_by (same_sender sender) picks) (posted sender target)) (posted sender target) ≡ cond b (drop (count_by (same_sender sender) picks) (before sender target)) (before sender target) ++ arguments_of sender target letters
     go false e = here
     go true e =

@@ -58,8 +58,8 @@ added-beside (xs ∷ lists) (suc n) r (suc other) apart = added-beside lists n r
 added-grows : (lists : Lists) (split : ℕ) (r : IngressRecord) → GrowTo lists (added lists split r)
 added-grows lists split r other =
     ⊎_elim (λ (e : split ≡ other). (r ∷ [], subst (λ s. split_of (added lists split r) s ≡ split_of lists s ++ r ∷ []) e (added-here lists split r)))
-      (λ (apart : split ≡ other → ⊥). ([], added-beside lists split r other apart ∙ sym (append-nil (split_of lists other))))
-      (cases_eq split other)
+    (λ (apart : split ≡ other → ⊥). ([], added-beside lists split r other apart ∙ sym (append-nil (split_of lists other))))
+    (cases_eq split other)
 
 at_end : {A : Type 0} (xs : List A) (x : A) (n : ℕ) → length xs ≡ n → slice_get (xs ++ x ∷ []) n ≡ Some x
 at_end [] x n e = subst (λ k. slice_get (x ∷ []) k ≡ Some x) e refl
@@ -103,10 +103,10 @@ one_more m old new st next entries entry grown so_far e =
 told_more : (m : Module) (old new lists : Lists) (st next : State) (entries : List Entry) (entry : Entry) (step : Step) → entry.step ≡ step → lists ≡ old → GrowTo old new → replayed m lists first_state entries ≡ Some st → StepsOver (Some new) m st step true next → replayed m new first_state (entries ++ entry ∷ []) ≡ Some next
 told_more m old new lists st next entries entry (Take split) which same grown so_far over =
     one_more m old new st next entries entry grown (ap (λ l. replayed m l first_state entries) (sym same) ∙ so_far)
-      (ap (step_after m new st) which ∙ over_lists m new st (Take split) over.found over.reads ∙ given (step_with m over.found st (Take split)) st next over.is_allowed over.leaves)
+    (ap (step_after m new st) which ∙ over_lists m new st (Take split) over.found over.reads ∙ given (step_with m over.found st (Take split)) st next over.is_allowed over.leaves)
 told_more m old new lists st next entries entry (Batch reply) which same grown so_far over =
     one_more m old new st next entries entry grown (ap (λ l. replayed m l first_state entries) (sym same) ∙ so_far)
-      (ap (step_after m new st) which ∙ batch_same m new st reply over.found ∙ given (step_with m over.found st (Batch reply)) st next over.is_allowed over.leaves)
+    (ap (step_after m new st) which ∙ batch_same m new st reply over.found ∙ given (step_with m over.found st (Batch reply)) st next over.is_allowed over.leaves)
 
 -- the counts of the lists, where one record more of a split was taken
 counts_more : (m : Module) (lists : Lists) (split : ℕ) (r : IngressRecord) (st next : State) → ((other : ℕ) → length (split_of lists other) ≡ st.taken other) → step_after m (added lists split r) st (Take split) ≡ Some next → (other : ℕ) → length (split_of (added lists split r) other) ≡ next.taken other
@@ -114,12 +114,12 @@ unfolding took
 counts_more m lists split r st next counts e other =
     let taken = take_step-some m (added lists split r) split st next e in
     ⊎_elim
-      (λ (same : split ≡ other). subst (λ s. length (split_of (added lists split r) s) ≡ next.taken s) same
-        (ap length (added-here lists split r) ∙ length-append (split_of lists split) (r ∷ []) ∙ ap (λ n. n + 1) (counts split)
-        ∙ sym (ap (λ (x : State). x.taken split) taken.leaves ∙ ap (λ b. cond b (st.taken split + 1) (st.taken split)) (eq-eqb split split refl))))
-      (λ (apart : split ≡ other → ⊥). ap length (added-beside lists split r other apart) ∙ counts other
-        ∙ sym (ap (λ (x : State). x.taken other) taken.leaves ∙ ap (λ b. cond b (st.taken other + 1) (st.taken other)) (ne_eqb split other apart)))
-      (cases_eq split other)
+    (λ (same : split ≡ other). subst (λ s. length (split_of (added lists split r) s) ≡ next.taken s) same
+    (ap length (added-here lists split r) ∙ length-append (split_of lists split) (r ∷ []) ∙ ap (λ n. n + 1) (counts split)
+    ∙ sym (ap (λ (x : State). x.taken split) taken.leaves ∙ ap (λ b. cond b (st.taken split + 1) (st.taken split)) (eq-eqb split split refl))))
+    (λ (apart : split ≡ other → ⊥). ap length (added-beside lists split r other apart) ∙ counts other
+    ∙ sym (ap (λ (x : State). x.taken other) taken.leaves ∙ ap (λ b. cond b (st.taken other + 1) (st.taken other)) (ne_eqb split other apart)))
+    (cases_eq split other)
 
 untold_take : (m : Module) (lists : Lists) (st next : State) (entries : List Entry) (entry : Entry) (split : ℕ) (found : Option IngressRecord) → entry.step ≡ Take split → ((other : ℕ) → length (split_of lists other) ≡ st.taken other) → replayed m lists first_state entries ≡ Some st → step_with m found st (Take split) ≡ Some next → Known None m (entries ++ entry ∷ []) next
 untold_take m lists st next entries entry split None which counts so_far e = absurd (let n = take_nothing m st split in cc)

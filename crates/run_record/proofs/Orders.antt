@@ -21,9 +21,10 @@ module _ {X : Type 0} (lt : X → X → Bool) (weak : IsStrictWeakOrder lt) wher
   ascends_from : (xs : List X) → ((i j : ℕ) (d : X) → i ≤ j → j < length xs → lt (get_or xs j d) (get_or xs i d) ≡ false) → Ascends xs
   unfolding Ascends
   ascends_from [] far = tt
-  ascends_from (x ∷ xs) far =
-      (recursion_from_All (λ y. lt y x ≡ false) xs (λ k d inside. far 0 (suc k) d (omega arith) (omega arith)),
-       ascends_from xs (λ i j d le inside. far (suc i) (suc j) d (omega arith) (omega arith)))
+  ascends_from (x ∷ xs) far = (
+    recursion_from_All (λ y. lt y x ≡ false) xs (λ k d inside. far 0 (suc k) d (omega arith) (omega arith)),
+    ascends_from xs (λ i j d le inside. far (suc i) (suc j) d (omega arith) (omega arith)),
+  )
 
   itself : (x : X) → lt x x ≡ false
   itself x = go (lt x x) refl
@@ -126,6 +127,7 @@ module _ (lt : Entry → Entry → Bool) (weak : IsStrictWeakOrder lt) (same : (
       front : (t : Bool) → ties lt z entry ≡ t → lt entry x ≡ true → cond t (entry ∷ filter (ties lt z) (x ∷ xs)) (filter (ties lt z) (x ∷ xs)) ≡ filter (ties lt z) (x ∷ xs) ++ cond t (entry ∷ []) []
       front false t e = sym (append-nil (filter (ties lt z) (x ∷ xs)))
       front true t e = let none = none_tie z entry (x ∷ xs) t (e, above entry x xs e a.0) in (λ i. entry ∷ none i) ∙ (λ i. sym none i ++ entry ∷ [])
+
       go : (b : Bool) → b ≡ lt entry x → filter (ties lt z) (placed entry xs) ≡ filter (ties lt z) (xs ++ entry ∷ []) → filter (ties lt z) (cond b (entry ∷ x ∷ xs) (x ∷ placed entry xs)) ≡ filter (ties lt z) (x ∷ (xs ++ entry ∷ []))
       go true e rest = front (ties lt z entry) refl (sym e) ∙ sym (filter-append (ties lt z) (x ∷ xs) (entry ∷ []))
       go false e rest = ap (λ ys. cond (ties lt z x) (x ∷ ys) ys) rest
@@ -148,9 +150,9 @@ module _ (lt : Entry → Entry → Bool) (weak : IsStrictWeakOrder lt) (same : (
   unfolding merged Ascends
   sorted_is lists all sorted joined ascends stable =
       one_order lt weak sorted (merged_behind [] (flat_map (λ entries. entries) lists))
-        (ascends_from lt weak sorted (sorted_far lt weak sorted ascends))
-        (ascends_behind [] (flat_map (λ entries. entries) lists) tt)
-        (λ z. stable z ∙ ap (filter (ties lt z)) joined ∙ sym (stable_behind z [] (flat_map (λ entries. entries) lists) tt))
+      (ascends_from lt weak sorted (sorted_far lt weak sorted ascends))
+      (ascends_behind [] (flat_map (λ entries. entries) lists) tt)
+      (λ z. stable z ∙ ap (filter (ties lt z)) joined ∙ sym (stable_behind z [] (flat_map (λ entries. entries) lists) tt))
 
 -- ---- the order of keys
 

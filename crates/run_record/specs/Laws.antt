@@ -171,7 +171,7 @@ reply_backed-more exchanges more m st reply extended is =
       url = is.url;
       at_url = is.at_url;
       exchanged = let P : List Exchange → Type 0 = λ all. Contains all (record { call = reply.call; url = is.url; request = to_spelling is.request; answer = reply.answer }) in
-        subst P (sym extended.1) (contains-append exchanges extended.0 _ is.exchanged);
+          subst P (sym extended.1) (contains-append exchanges extended.0 _ is.exchanged);
     }
 
 pub step_backed-more : (exchanges more : List Exchange) (m : Module) (st : State) (step : Step) → Extends exchanges more → IsBackedStep exchanges m st step → IsBackedStep more m st step

@@ -71,13 +71,13 @@ is_served m ingress = list_all (λ target. is_some (endpoint_of m target)) ingre
 -- patterns, ingress ids and egress ids stand once each, endpoints are usable, all targets have one, and there are 1 to 32 splits
 abbrev pub is_routable : Module → Bool
 is_routable m =
-  all_apart same_pattern (map (λ (endpoint : Endpoint). endpoint.pattern) m.endpoints)
-  && all_apart same_name (map (λ (ingress : IngressSpec). ingress.id) m.ingresses)
-  && all_apart same_name m.egresses
-  && list_all is_usable m.endpoints
-  && list_all (is_served m) m.ingresses
-  && nat_lt 0 (splits_in m.ingresses)
-  && nat_le (splits_in m.ingresses) 32
+    all_apart same_pattern (map (λ (endpoint : Endpoint). endpoint.pattern) m.endpoints)
+    && all_apart same_name (map (λ (ingress : IngressSpec). ingress.id) m.ingresses)
+    && all_apart same_name m.egresses
+    && list_all is_usable m.endpoints
+    && list_all (is_served m) m.ingresses
+    && nat_lt 0 (splits_in m.ingresses)
+    && nat_le (splits_in m.ingresses) 32
 
 -- ---- URLs and letters
 

@@ -55,12 +55,7 @@ fn apply_take(
 }
 
 /// Serves a batch, where its moment is not before the address' last, its picks give a request and its answer is valid.
-fn apply_batch(
-    alloc: Global,
-    machine: &mut Machine,
-    routes: &Routes,
-    reply: &Reply,
-) -> Mem<bool>
+fn apply_batch(alloc: Global, machine: &mut Machine, routes: &Routes, reply: &Reply) -> Mem<bool>
     ensures allowed { IfOk result (λ allowed. allowed ≡ is_some (batch_step routes.now reply.now (state_of machine.old))) }
     ensures state { OnOk result (state_of machine.new ≡ unwrap_or (batch_step routes.now reply.now (state_of machine.old)) (state_of machine.old)) }
     ensures err { OnErr result (state_of machine.new ≡ state_of machine.old) }
@@ -71,7 +66,8 @@ fn apply_batch(
     let Some(_request) = request_for(alloc, machine, routes, reply)? else {
         return Ok(false);
     };
-    let Judged::Accept(response) = judge(alloc, reply.answer.as_slice(), &routes.module().egresses)? else {
+    let Judged::Accept(response) = judge(alloc, reply.answer.as_slice(), &routes.module().egresses)?
+    else {
         return Ok(false);
     };
     serve(alloc, machine, reply, response)?;

@@ -107,12 +107,20 @@ fn upper_digit(digit: u8) -> u8
     requires { digit < 16 }
     ensures { result ≡ upper_digit digit }
 {
-    if digit < 10 { b'0' + digit } else { b'A' - 10 + digit }
+    if digit < 10 {
+        b'0' + digit
+    } else {
+        b'A' - 10 + digit
+    }
 }
 
 fn lower_digit(digit: u8) -> u8
     requires { digit < 16 }
     ensures { result ≡ lower_digit digit }
 {
-    if digit < 10 { b'0' + digit } else { b'a' - 10 + digit }
+    if digit < 10 {
+        b'0' + digit
+    } else {
+        b'a' - 10 + digit
+    }
 }

@@ -67,7 +67,11 @@ impl Routes {
         ensures { IfOk result (λ url. url ≡ url_of self.now kind.now) }
     {
         match self.endpoint_of(kind) {
-            Some(endpoint) => Ok(Some(filled(alloc, endpoint.template.as_str(), kind.name.as_str())?)),
+            Some(endpoint) => Ok(Some(filled(
+                alloc,
+                endpoint.template.as_str(),
+                kind.name.as_str(),
+            )?)),
             None => Ok(None),
         }
     }
@@ -88,7 +92,13 @@ impl Routes {
         ensures { IfOk result (λ letters. letters ≡ letters_of self.now split taken.now) }
     {
         let ingress = ingress_at(self.module.ingresses.as_slice(), split);
-        letters_to(alloc, split, &ingress.value_type, taken, ingress.targets.as_slice())
+        letters_to(
+            alloc,
+            split,
+            &ingress.value_type,
+            taken,
+            ingress.targets.as_slice(),
+        )
     }
 }
 
@@ -108,19 +118,38 @@ fn ingress_at<'a>(ingresses: &'a [IngressSpec], split: u32) -> &'a IngressSpec
 }
 
 /// A record as the letter to one target.
-fn letter_to(alloc: Global, split: u32, value_type: &Text, taken: &IngressRecord, target: &TypeName) -> Mem<Letter>
+fn letter_to(
+    alloc: Global,
+    split: u32,
+    value_type: &Text,
+    taken: &IngressRecord,
+    target: &TypeName,
+) -> Mem<Letter>
     ensures { IfOk result (λ letter. letter ≡ letter_of split value_type.now taken.now target.now) }
 {
-    let address = Address { kind: target.try_clone(alloc)?, id: taken.key.try_clone(alloc)? };
+    let address = Address {
+        kind: target.try_clone(alloc)?,
+        id: taken.key.try_clone(alloc)?,
+    };
     let argument = TypedValue {
         typename: value_type.try_clone(alloc)?,
         has_value: true,
         value: taken.value.try_clone(alloc)?,
     };
-    Ok(Letter { sender: Sender::Split(split), target: address, argument })
+    Ok(Letter {
+        sender: Sender::Split(split),
+        target: address,
+        argument,
+    })
 }
 
-fn letters_to(alloc: Global, split: u32, value_type: &Text, taken: &IngressRecord, targets: &[TypeName]) -> Mem<List<Letter>>
+fn letters_to(
+    alloc: Global,
+    split: u32,
+    value_type: &Text,
+    taken: &IngressRecord,
+    targets: &[TypeName],
+) -> Mem<List<Letter>>
     ensures { IfOk result (λ letters. letters ≡ map (letter_of split value_type.now taken.now) targets.now) }
 {
     let mut letters = List::new(alloc);
@@ -150,7 +179,8 @@ fn is_exact(kind: &TypeName, endpoint: &Endpoint) -> bool
     ensures { result ≡ is_exact kind.now endpoint.now }
 {
     match &endpoint.pattern.name {
-        Some(name) => name.is_same(&kind.name) && endpoint.pattern.namespace.is_same(&kind.namespace),
+        Some(name) => name.is_same(&kind.name)
+            && endpoint.pattern.namespace.is_same(&kind.namespace),
         None => false,
     }
 }

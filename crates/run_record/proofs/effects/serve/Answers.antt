@@ -17,10 +17,10 @@ returns-in-Err-clause-err c =
     let old = c.args.machine.now in
     let new : Machine = record { taken = old.taken; mail = c.withdraw.new.self; seen = c.reserve.new.self; egress = c.push_all-2.new.self } in
     same_state new old
-      (λ split. refl)
-      (λ sender target. c.withdraw.ensures (list_in address_order sender_order old.mail.shelves) c.in_ok-letters.letters.items (sym (c.as_slice.ensures.value ∙ c.in_ok-places.ensures.places)) c.in_ok-places.ensures.ok target sender)
-      (λ address. c.reserve.ensures.same address)
-      (λ address egress. c.in-Err.ensures.err address egress)
+    (λ split. refl)
+    (λ sender target. c.withdraw.ensures (list_in address_order sender_order old.mail.shelves) c.in_ok-letters.letters.items (sym (c.as_slice.ensures.value ∙ c.in_ok-places.ensures.places)) c.in_ok-places.ensures.ok target sender)
+    (λ address. c.reserve.ensures.same address)
+    (λ address egress. c.in-Err.ensures.err address egress)
 
 pub returns-clause-ok : goal.returns-clause-ok
 unfolding state_of
@@ -33,9 +33,9 @@ returns-clause-ok c =
     let P : List (Placed Address Sender TypedValue) → Type 0 = λ items. HasBehind address_order sender_order (list_in address_order sender_order old.mail.shelves) items (list_in address_order sender_order c.push_all.new.self.shelves) in
     let Q : List (Placed Address TypeName TypedValue) → Type 0 = λ items. HasBehind address_order name_order (list_in address_order name_order old.egress.shelves) items (list_in address_order name_order c.push_all-2.new.self.shelves) in
     state_served c.args.reply.now response old new
-      (λ split. refl)
-      (posted_before address c.args.reply.now.picks letters (mail_of old.mail) (mail_of c.push_all.new.self) (mail_of c.drop_picked.new.mail) c.requires
-        (mail_posted (mail_of old.mail) (mail_of c.push_all.new.self) letters (subst P c.in_ok-letters.ensures c.in_ok-places.ensures.ok))
-        (λ sender target. c.drop_picked.ensures sender target ∙ ap (λ picks. unpicked address picks (mail_of c.push_all.new.self) sender target) c.as_slice-2.ensures))
-      (λ other. seen_set address c.args.reply.now.moment (moment_in c.reserve.new.self) (moment_in c.set_reserved.new.self) c.set_reserved.ensures other ∙ (λ i. seen_after address c.args.reply.now.moment (λ (any : Address). c.reserve.ensures.same any i) other))
-      (egress_emitted address response.outgoing_egresses (egress_in old.egress) (egress_in c.push_all-2.new.self) (subst Q c.in_ok-records.ensures c.in_default.ensures.ok))
+    (λ split. refl)
+    (posted_before address c.args.reply.now.picks letters (mail_of old.mail) (mail_of c.push_all.new.self) (mail_of c.drop_picked.new.mail) c.requires
+    (mail_posted (mail_of old.mail) (mail_of c.push_all.new.self) letters (subst P c.in_ok-letters.ensures c.in_ok-places.ensures.ok))
+    (λ sender target. c.drop_picked.ensures sender target ∙ ap (λ picks. unpicked address picks (mail_of c.push_all.new.self) sender target) c.as_slice-2.ensures))
+    (λ other. seen_set address c.args.reply.now.moment (moment_in c.reserve.new.self) (moment_in c.set_reserved.new.self) c.set_reserved.ensures other ∙ (λ i. seen_after address c.args.reply.now.moment (λ (any : Address). c.reserve.ensures.same any i) other))
+    (egress_emitted address response.outgoing_egresses (egress_in old.egress) (egress_in c.push_all-2.new.self) (subst Q c.in_ok-records.ensures c.in_default.ensures.ok))

@@ -21,7 +21,7 @@ returns-clause-ok c =
     let placed : c.in_ok-letters-2.letters.items ≡ map placed_letter letters = c.in_ok-letters-2.ensures ∙ ap (map placed_letter) c.in_ok-letters.ensures in
     let P : List (Placed Address Sender TypedValue) → Type 0 = λ items. HasBehind address_order sender_order (list_in address_order sender_order old.mail.shelves) items (list_in address_order sender_order c.push_all.new.self.shelves) in
     state_took c.args.routes.now c.args.split c.args.found.now old new
-      (λ other. c.count_one.ensures other ∙ (λ i. taken_after c.args.split (λ (any : ℕ). c.in_ok-reach.ensures.same any i) other))
-      (mail_posted (mail_of old.mail) (mail_of c.push_all.new.self) letters (subst P placed c.in_ok-_places.ensures.ok))
-      (λ address. refl)
-      (λ address egress. refl)
+    (λ other. c.count_one.ensures other ∙ (λ i. taken_after c.args.split (λ (any : ℕ). c.in_ok-reach.ensures.same any i) other))
+    (mail_posted (mail_of old.mail) (mail_of c.push_all.new.self) letters (subst P placed c.in_ok-_places.ensures.ok))
+    (λ address. refl)
+    (λ address egress. refl)

@@ -28,7 +28,7 @@ returns-then-not-branch-clause-replays g c =
     let Stands : List Entry → Type 0 = λ items. entry ≡ get_or items c.loop-place.place entry in
     let P : Bool → Type 0 = λ allowed. StepsOver told c.args.routes.now st entry.step allowed next in
     stuck_at told c.args.routes.now c.args.entries.now st c.loop-place.place entry (subst Inside c.as_slice-entry-items.ensures c.loop-place-test.true) (subst Stands c.as_slice-entry-items.ensures c.entry-item.is)
-      (known_stuck (g.I.Ingress.lists c.loop-place.ingress) told c.args.routes.now st next (take c.loop-place.place c.args.entries.now) entry.step c.replay_step.ensures.grows c.loop-place.invariant.known (subst P c.if-not-branch.true c.in_ok-replay_step.ensures.steps))
+    (known_stuck (g.I.Ingress.lists c.loop-place.ingress) told c.args.routes.now st next (take c.loop-place.place c.args.entries.now) entry.step c.replay_step.ensures.grows c.loop-place.invariant.known (subst P c.if-not-branch.true c.in_ok-replay_step.ensures.steps))
 
 pub loop-place-preserved : goal.loop-place-preserved
 loop-place-preserved g c =
@@ -41,7 +41,7 @@ loop-place-preserved g c =
     let P : Bool → Type 0 = λ allowed. StepsOver told c.args.routes.now st entry.step allowed next in
     record {
       known = known_on told c.args.routes.now c.args.entries.now c.loop-place.place entry next (subst Inside c.as_slice-entry-items.ensures c.loop-place-test.true) (subst Stands c.as_slice-entry-items.ensures c.entry-item.is)
-        (known_more (g.I.Ingress.lists c.loop-place.ingress) told c.args.routes.now st next (take c.loop-place.place c.args.entries.now) entry c.replay_step.ensures.grows c.loop-place.invariant.known (subst P c.if-not-branch.false c.in_ok-replay_step.ensures.steps));
+          (known_more (g.I.Ingress.lists c.loop-place.ingress) told c.args.routes.now st next (take c.loop-place.place c.args.entries.now) entry c.replay_step.ensures.grows c.loop-place.invariant.known (subst P c.if-not-branch.false c.in_ok-replay_step.ensures.steps));
       grows = Grows-on (g.I.Ingress.lists c.args.ingress.now) (g.I.Ingress.lists c.loop-place.ingress) told c.loop-place.invariant.grows c.replay_step.ensures.grows;
       counts = c.in_ok-replay_step.ensures.cause ∙ c.loop-place.invariant.counts;
     }
