@@ -128,8 +128,8 @@ pub fn append<M: Message>(
 ) -> Result<(), DecodeFault>
     ensures { Changes result list.new (appended M.empty M.rows list.old (item_of item.now)) }
 {
-    let mut message = M::blank(alloc);
-    merge(alloc, &mut message, item.end, item.payload)?;
-    list.push(message)?;
+    let mut next = M::blank(alloc);
+    merge(alloc, &mut next, item.end, item.payload)?;
+    list.push(next)?;
     Ok(())
 }

@@ -14,7 +14,7 @@ mod text;
 mod varint;
 
 pub use bytes::Bytes;
-pub use fault::{DecodeFault, WireFault, WireKind};
+pub use fault::{DecodeFault, ModuleKind, WireFault, WireKind};
 pub use field::{append, join, joined};
 pub use list::List;
 pub use memory::{Mem, OutOfMemory, Same, TryClone};
@@ -24,6 +24,9 @@ pub use put::{
     signed_size, with_bool, with_bytes, with_enum, with_long, with_member, with_message,
     with_messages, with_number, with_text,
 };
-pub use record::Record;
+pub use record::{Record, WireRecord, next_record};
 pub use text::Text;
 pub use varint::{put_varint, varint_size};
+
+#[cfg(test)]
+mod tests;
