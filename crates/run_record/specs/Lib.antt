@@ -1,0 +1,4 @@
+pub mod Routing
+pub mod Machine
+pub mod Backed
+pub mod Egress

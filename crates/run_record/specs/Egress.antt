@@ -1,0 +1,74 @@
+-- What a record gave to the egresses, and the text of it.
+use Rattle.std.specs.Prelude.{ℕ, ◌+◌, ◌/◌, ◌%◌, nat_lt, nat_le, List, [], ◌∷◌, ◌++◌, ◌||◌, ◌==◌, map, codes, if◌then◌else◌}
+use Rattle.std.specs.List.{flat_map}
+use Rattle.typed_values.specs.declared.name.TypeName.{TypeName}
+use Rattle.typed_values.specs.declared.address.Address.{Address}
+use Rattle.typed_values.specs.declared.value.TypedValue.{TypedValue}
+use Rattle.typed_values.specs.declared.record.EgressRecord.{EgressRecord}
+use Rattle.request_reply.specs.declared.answer.EgressMessage.{EgressMessage}
+use Rattle.request_reply.specs.declared.judging.Judged.{Judged}
+use Rattle.request_reply.specs.declared.judging.Judged.TheVariants.{Accept, Flaw}
+use Rattle.request_reply.specs.Valid.{verdict}
+use Rattle.run_record.specs.declared.module.Module.{Module}
+use Rattle.run_record.specs.declared.entry.Entry.{Entry}
+use Rattle.run_record.specs.declared.entry.Step.{Step}
+use Rattle.run_record.specs.declared.entry.Step.TheVariants.{Take, Batch}
+use Rattle.run_record.specs.Machine.{argument_of, egress_name}
+
+-- an egress message of an answer, as a record of the address that answered
+abbrev pub egress_record : Address → EgressMessage → EgressRecord
+egress_record sender message = record { sender = sender; egress = egress_name message; argument = argument_of message.argument }
+
+abbrev pub records_judged : Address → Judged → List EgressRecord
+records_judged sender (Accept response) = map (egress_record sender) response.outgoing_egresses
+records_judged sender (Flaw flaw) = []
+
+abbrev pub records_of_step : Module → Step → List EgressRecord
+records_of_step m (Take split) = []
+records_of_step m (Batch reply) = records_judged reply.address (verdict m.egresses reply.answer)
+
+-- the egress of a record, in its order
+unfoldable pub egress_of : Module → List Entry → List EgressRecord
+egress_of m entries = flat_map (λ entry. records_of_step m entry.step) entries
+
+-- ---- the text
+
+-- a digit of a number below 16, in upper case and in lower case
+abbrev pub upper_digit : ℕ → ℕ
+upper_digit n = if nat_lt n 10 then 48 + n else 55 + n
+
+abbrev pub lower_digit : ℕ → ℕ
+lower_digit n = if nat_lt n 10 then 48 + n else 87 + n
+
+-- a byte that is no visible ASCII character, and the percent sign, as `%` and two digits
+abbrev pub escaped_byte : ℕ → List ℕ
+escaped_byte byte = if nat_lt byte 33 || nat_lt 126 byte || byte == 37 then 37 ∷ upper_digit (byte / 16) ∷ upper_digit (byte % 16) ∷ [] else byte ∷ []
+
+abbrev pub escaped : List ℕ → List ℕ
+escaped bytes = flat_map escaped_byte bytes
+
+abbrev pub hex_byte : ℕ → List ℕ
+hex_byte byte = lower_digit (byte / 16) ∷ lower_digit (byte % 16) ∷ []
+
+abbrev pub hex : List ℕ → List ℕ
+hex bytes = flat_map hex_byte bytes
+
+-- `namespace/name`
+abbrev pub name_text : TypeName → List ℕ
+name_text n = escaped n.namespace ++ 47 ∷ escaped n.name
+
+-- `namespace/name/id`
+abbrev pub address_text : Address → List ℕ
+address_text a = name_text a.kind ++ 47 ∷ escaped a.id
+
+-- the value's bytes, or `none`
+abbrev pub value_text : TypedValue → List ℕ
+value_text v = if v.has_value then hex v.value else codes "none"
+
+-- `SENDER EGRESS TYPENAME HEX`
+abbrev pub egress_line : EgressRecord → List ℕ
+egress_line r = address_text r.sender ++ 32 ∷ (name_text r.egress ++ 32 ∷ (escaped r.argument.typename ++ 32 ∷ (value_text r.argument ++ 10 ∷ [])))
+
+-- a line for each record
+unfoldable pub egress_text : List EgressRecord → List ℕ
+egress_text records = flat_map egress_line records

@@ -1,0 +1,69 @@
+-- Where things go in a job.
+use Rattle.std.specs.Prelude.{◌≡◌, ℕ, ◌+◌, ◌-◌, nat_eq, nat_lt, codes, zero, suc, List, [], ◌∷◌, ◌++◌, Bool, true, false, ◌&&◌, if◌then◌else◌, Option, Some, None, map, find, option_and_then}
+use Rattle.std.specs.Option.{option_map, option_map_or}
+use Rattle.std.specs.List.{starts_with}
+use Rattle.typed_values.specs.declared.name.TypeName.{TypeName}
+use Rattle.typed_values.specs.declared.letter.Sender.TheVariants.{Split}
+use Rattle.typed_values.specs.declared.letter.Letter.{Letter}
+use Rattle.typed_values.specs.Sameness.{same_bytes, same_name}
+use Rattle.sf_outside.specs.declared.ingress.IngressRecord.{IngressRecord}
+use Rattle.run_record.specs.declared.module.Module.{Module}
+use Rattle.run_record.specs.declared.module.Endpoint.{Endpoint}
+use Rattle.run_record.specs.declared.module.IngressSpec.{IngressSpec}
+
+-- the number of splits of some ingresses
+abbrev pub splits_in : List IngressSpec → ℕ
+splits_in [] = 0
+splits_in (ingress ∷ ingresses) = ingress.splits + splits_in ingresses
+
+-- the ingress to which a split belongs: splits are numbered through the ingresses in order
+abbrev pub ingress_in : List IngressSpec → ℕ → Option IngressSpec
+ingress_in [] split = None
+ingress_in (ingress ∷ ingresses) split = if nat_lt split ingress.splits then Some ingress else ingress_in ingresses (split - ingress.splits)
+
+unfoldable pub ingress_of : Module → ℕ → Option IngressSpec
+ingress_of m split = ingress_in m.ingresses split
+
+-- the types to which a split's records go
+unfoldable pub targets_of : Module → ℕ → List TypeName
+targets_of m split = option_map_or (λ ingress. ingress.targets) (ingress_of m split) []
+
+-- a pattern that is this very name; a pattern for the name's whole namespace
+abbrev pub is_exact : TypeName → Endpoint → Bool
+is_exact kind endpoint = option_map_or (same_bytes kind.name) endpoint.pattern.name false && same_bytes kind.namespace endpoint.pattern.namespace
+
+abbrev pub is_wide : TypeName → Endpoint → Bool
+is_wide kind endpoint = option_map_or (λ _. false) endpoint.pattern.name true && same_bytes kind.namespace endpoint.pattern.namespace
+
+abbrev pub or_else : {A : Type 0} → Option A → Option A → Option A
+or_else (Some x) other = Some x
+or_else None other = other
+
+-- the endpoint of a type: the one with that very name, else the one of its namespace
+unfoldable pub endpoint_of : Module → TypeName → Option Endpoint
+endpoint_of m kind = or_else (find (is_exact kind) m.endpoints) (find (is_wide kind) m.endpoints)
+
+-- a template with each `{function.name}` in it replaced by the name; so many bytes in front are passed over
+abbrev pub filled_from : List ℕ → ℕ → List ℕ → List ℕ
+filled_from name skip [] = []
+filled_from name (suc skip) (byte ∷ bytes) = filled_from name skip bytes
+filled_from name zero (byte ∷ bytes) = if starts_with nat_eq (byte ∷ bytes) (codes "{function.name}") then name ++ filled_from name 14 bytes else byte ∷ filled_from name zero bytes
+
+unfoldable pub filled : List ℕ → List ℕ → List ℕ
+filled name template = filled_from name 0 template
+
+-- the URL at which a type's functions are called
+unfoldable pub url_of : Module → TypeName → Option (List ℕ)
+url_of m kind = option_map (λ endpoint. filled kind.name endpoint.template) (endpoint_of m kind)
+
+-- a record as the letter to one target: the address' id is the record's key
+abbrev pub letter_of : ℕ → List ℕ → IngressRecord → TypeName → Letter
+letter_of split value_type taken target = record {
+  sender = Split split;
+  target = record { kind = target; id = taken.key };
+  argument = record { typename = value_type; has_value = true; value = taken.value };
+}
+
+-- the letters that a split's record becomes, one for each target in order
+unfoldable pub letters_of : Module → ℕ → IngressRecord → List Letter
+letters_of m split taken = option_map_or (λ ingress. map (letter_of split ingress.value_type taken) ingress.targets) (ingress_of m split) []

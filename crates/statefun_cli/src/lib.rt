@@ -1,0 +1,6 @@
+//! The commands of `statefun`.
+#![tactic(auto)]
+
+mod end;
+
+pub use end::{PlainEnd, PlainRun};
