@@ -20,8 +20,9 @@ pub use list::List;
 pub use memory::{Mem, OutOfMemory, Same, TryClone};
 pub use message::{Message, merge};
 pub use put::{
-    bool_size, bytes_size, member_size, message_size, messages_size, number_size, put_bytes,
-    signed_size, with_bool, with_bytes, with_enum, with_long, with_member, with_message,
+    bool_size, bytes_size, choice_size, eight_size, four_size, member_size, message_size,
+    messages_size, number_size, put_bytes, record_size, signed_size, with_bool, with_bytes,
+    with_choice, with_eight, with_enum, with_four, with_head, with_long, with_member, with_message,
     with_messages, with_number, with_text,
 };
 pub use record::{Record, WireRecord, next_record};
