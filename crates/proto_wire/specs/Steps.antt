@@ -268,3 +268,12 @@ pub members-steps : {M N : Type 0} (rows : List (Row M)) (field : ℕ) (before :
 unfolding joined
 members-steps rows field before blank inner put value again tag fits short takes =
     message-steps rows field before (put value) blank inner value again tag fits short (λ end payload rest e. takes end payload rest ∙ rw e refl)
+
+-- ---- a spelling that was written
+
+pub written-again : {M : Type 0} (blank : M) (rows : List (Row M)) → IsAgain blank rows → (into bytes : List ℕ) (value : M) → into ≡ [] → bytes ≡ into ++ spelling rows value → fit rows value ≡ true
+    → length bytes < 2 ^ 64 → value_in rows blank (length bytes) bytes ≡ Ok value
+written-again blank rows again into bytes value none spelled fits short =
+    let e : bytes ≡ spelling rows value = spelled ∙ ap (λ (s : List ℕ). s ++ spelling rows value) none in
+    let P : List ℕ → Type 0 = λ s. length s < 2 ^ 64 → value_in rows blank (length s) s ≡ Ok value in
+    subst P (sym e) (λ k. again value fits k (length (spelling rows value))) short

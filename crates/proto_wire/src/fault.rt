@@ -1,6 +1,7 @@
 //! What can be wrong with bytes in the wire format.
-ghost use Rattle.std.specs.Prelude.{◌≡◌};
-ghost use Rattle.proto_wire.specs.declared.fault.DecodeFault.TheVariants.{OutOfMemory as WantsMemory};
+ghost use Rattle.std.specs.Prelude.{◌≡◌, length};
+ghost use Rattle.proto_wire.specs.declared.fault.DecodeFault.TheVariants.{OutOfMemory as WantsMemory, Wire};
+ghost use Rattle.proto_wire.specs.declared.fault.WireKind.TheVariants.{NoMember};
 
 use crate::OutOfMemory;
 use std::alloc::{AllocError, AllocFailed};
@@ -114,4 +115,14 @@ impl<T: Drop> From<AllocFailed<T>> for DecodeFault {
     fn from(_: AllocFailed<T>) -> DecodeFault {
         DecodeFault::OutOfMemory
     }
+}
+
+/// That something which a message needs is absent. The place is the length of the input.
+pub fn no_member(input: &[u8]) -> DecodeFault
+    ensures { result ≡ Wire (record { kind = NoMember; at = length input.now }) }
+{
+    DecodeFault::Wire(WireFault {
+        kind: WireKind::NoMember,
+        at: input.len(),
+    })
 }

@@ -14,7 +14,7 @@ mod text;
 mod varint;
 
 pub use bytes::Bytes;
-pub use fault::{DecodeFault, ModuleKind, WireFault, WireKind};
+pub use fault::{DecodeFault, ModuleKind, WireFault, WireKind, no_member};
 pub use field::{append, join, joined};
 pub use list::List;
 pub use memory::{Mem, OutOfMemory, Same, TryClone};

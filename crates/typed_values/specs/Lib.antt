@@ -1,3 +1,6 @@
 pub mod Sameness
 pub mod Tables
 pub mod Again
+pub mod Stored
+pub mod Spelling
+pub mod StoredAgain

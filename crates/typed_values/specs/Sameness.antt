@@ -1,5 +1,5 @@
 -- Tests of sameness, and that they mean it.
-use Rattle.std.specs.Prelude.{◌≡◌, ℕ, nat_eq, List, Bool, true, false, ◌&&◌, refl}
+use Rattle.std.specs.Prelude.{◌≡◌, ℕ, nat_eq, List, Bool, false, ◌&&◌}
 use Rattle.std.specs.Bool.{Decides}
 use Rattle.std.specs.Cmp.Lexicographic.{pointwise, bytes_decides}
 use Rattle.std.specs.Cmp.{first_so, second_so, unsigned_Decides}

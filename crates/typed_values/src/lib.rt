@@ -6,7 +6,9 @@ mod cell;
 mod letter;
 mod messages;
 mod name;
+mod reading;
 mod record;
+mod stored;
 mod value;
 
 pub use address::Address;
@@ -14,4 +16,8 @@ pub use cell::{CellSpec, Expiry};
 pub use letter::{Letter, Sender};
 pub use name::TypeName;
 pub use record::{Delay, EgressRecord};
+pub use stored::{
+    decode_address, decode_delay, decode_egress, decode_letter, decode_sender, decode_value,
+    encode_address, encode_delay, encode_egress, encode_letter, encode_sender, encode_value,
+};
 pub use value::TypedValue;
