@@ -1,5 +1,5 @@
 //! Byte strings.
-ghost use Rattle.std.specs.Prelude.{◌≡◌, ◌↔◌, [], ◌∷◌, ◌++◌, length, IsTrue, IfOk, OnOk, OnErr};
+ghost use Rattle.std.specs.Prelude.{◌≡◌, ◌↔◌, [], ◌∷◌, ◌++◌, length, take, IsTrue, IfOk, OnOk, OnErr};
 
 use crate::{Mem, Same, TryClone};
 use std::alloc::Global;
@@ -59,6 +59,11 @@ impl Bytes {
         self.items.as_slice()
     }
 
+    /// The allocator of the bytes.
+    pub fn allocator(&self) -> Global {
+        *self.items.allocator()
+    }
+
     /// How many bytes there are.
     pub fn len(&self) -> usize
         ensures { result ≡ length self.now }
@@ -80,6 +85,13 @@ impl Bytes {
     {
         self.items.push(byte)?;
         Ok(())
+    }
+
+    /// Keeps the first `len` bytes, or all where there are no more.
+    pub fn truncate(&mut self, len: usize)
+        ensures { self.new ≡ take len self.old }
+    {
+        self.items.truncate(len);
     }
 
     /// Adds bytes at the end. An `Err` changes nothing.

@@ -1,32 +1,126 @@
 //! Which answers are valid.
-ghost use Rattle.std.specs.Prelude.{◌≡◌, IfOk};
-ghost use Rattle.request_reply.specs.Spelling.{to_spelling};
-ghost use Rattle.request_reply.specs.Valid.{verdict};
+ghost use Rattle.std.specs.Prelude.{◌≡◌, ◌+◌, ◌<◌, ◌≤◌, ◌^◌, length, IfOk, IfSome, Option, None, Some, Ok, ℕ};
+ghost use Rattle.request_reply.specs.Valid.{is_known, is_name, first_unknown, has_egresses_alone, flaw_not_built, judged_egresses, judged_answer, verdict};
 
-use crate::{Flaw, InvocationResponse, ToFunction};
-use proto_wire::{Bytes, List, Mem, OutOfMemory};
+use crate::{
+    EgressMessage, Flaw, FlawKind, FromFunction, InvocationResponse, decode_from, encode_from,
+};
+use proto_wire::{DecodeFault, List, Mem, OutOfMemory};
 use std::alloc::Global;
 use typed_values::TypeName;
 
-/// What an answer is worth.
+/// The most bytes of an answer.
+pub const ANSWER_LIMIT: usize = 4_194_304;
+
+/// What an answer is.
 #[derive(PartialEq, Eq, Drop)]
 pub enum Judged {
-    /// It is valid, and this is what it does.
+    /// A valid result.
     Accept(InvocationResponse),
-    /// It is not valid, and this is the first thing that is wrong with it.
+    /// Not valid, for this first flaw.
     Flaw(Flaw),
 }
 
-/// Judges an answer for a module with these egresses.
-pub fn judge(_alloc: Global, _answer: &[u8], _egresses: &List<TypeName>) -> Mem<Judged>
-    ensures { IfOk result (λ judged. judged ≡ verdict _egresses.now _answer.now) }
+fn not_built() -> Judged
+    ensures { result ≡ flaw_not_built }
 {
-    Err(OutOfMemory)
+    Judged::Flaw(Flaw {
+        kind: FlawKind::NotBuilt,
+        index: 0,
+        wire: None,
+    })
 }
 
-/// The canonical spelling of a request.
-pub fn encode_to(_alloc: Global, _value: &ToFunction) -> Mem<Bytes>
-    ensures { IfOk result (λ bytes. bytes ≡ to_spelling _value.now) }
+fn is_name(name: &TypeName, message: &EgressMessage) -> bool
+    ensures { result ≡ is_name name.now message.now }
 {
-    Err(OutOfMemory)
+    name.namespace.as_bytes() == message.egress_namespace.as_bytes()
+        && name.name.as_bytes() == message.egress_type.as_bytes()
+}
+
+#[tactic(auto, unfolding(crate::specs::Valid::is_known))]
+fn is_known(names: &[TypeName], message: &EgressMessage) -> bool
+    ensures { result ≡ is_known names.now message.now }
+{
+    for name in names {
+        if is_name(name, message) {
+            return true;
+        }
+    }
+    false
+}
+
+#[tactic(auto, unfolding(crate::specs::Valid::first_unknown))]
+fn first_unknown(names: &[TypeName], messages: &[EgressMessage]) -> Option<usize>
+    ensures place { result ≡ first_unknown names.now 0 messages.now }
+    ensures within { IfSome result (λ place. place < length messages.now) }
+{
+    for (place, message) in messages.iter().enumerate() {
+        if !is_known(names, message) {
+            return Some(place);
+        }
+    }
+    None
+}
+
+fn has_egresses_alone(response: &InvocationResponse) -> bool
+    ensures { result ≡ has_egresses_alone response.now }
+{
+    response.state_mutations.is_empty()
+        && response.outgoing_messages.is_empty()
+        && response.delayed_invocations.is_empty()
+}
+
+fn judged_response(egresses: &List<TypeName>, response: InvocationResponse) -> Judged
+    requires { length response.outgoing_egresses < 2 ^ 32 }
+    ensures { result ≡ judged_egresses response (first_unknown egresses.now 0 response.outgoing_egresses) }
+{
+    match first_unknown(egresses.as_slice(), response.outgoing_egresses.as_slice()) {
+        None => Judged::Accept(response),
+        Some(place) => Judged::Flaw(Flaw {
+            kind: FlawKind::UnknownEgress,
+            index: place as u32,
+            wire: None,
+        }),
+    }
+}
+
+#[tactic(auto, unfolding(crate::specs::Valid::judged_answer))]
+fn judged_read(
+    alloc: Global,
+    answer: &[u8],
+    egresses: &List<TypeName>,
+    read: FromFunction,
+) -> Mem<Judged>
+    requires { length answer.now ≤ 4194304 }
+    ensures { IfOk result (λ judged. judged ≡ judged_answer egresses.now answer.now (Ok read)) }
+{
+    let spelling = encode_from(alloc, &read)?;
+    let canonical = spelling.as_slice() == answer;
+    match read {
+        FromFunction::Incomplete(_context) => Ok(not_built()),
+        FromFunction::Result(response) => {
+            if canonical && has_egresses_alone(&response) {
+                return Ok(judged_response(egresses, response));
+            }
+            Ok(not_built())
+        }
+    }
+}
+
+/// Judges an answer: accepted exactly where it is valid, else its first flaw. The flaw is NotBuilt where the answer is longer than 4,194,304 bytes or is not the
+/// canonical spelling of a result with egress messages alone, and UnknownEgress, with the place of the first such message, where one names an egress that is not
+/// in the list.
+#[tactic(auto, unfolding(crate::specs::Valid::verdict, crate::specs::Valid::judged_answer))]
+pub fn judge(alloc: Global, answer: &[u8], egresses: &List<TypeName>) -> Mem<Judged>
+    ensures { IfOk result (λ judged. judged ≡ verdict egresses.now answer.now) }
+{
+    if answer.len() > ANSWER_LIMIT {
+        return Ok(not_built());
+    }
+    match decode_from(alloc, answer) {
+        Ok(read) => judged_read(alloc, answer, egresses, read),
+        Err(DecodeFault::Wire(_)) => Ok(not_built()),
+        Err(DecodeFault::OutOfMemory) => Err(OutOfMemory),
+    }
 }

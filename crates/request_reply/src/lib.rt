@@ -2,14 +2,21 @@
 #![tactic(auto)]
 
 mod answer;
+mod answer_messages;
 mod flaw;
 mod judging;
 mod request;
+mod request_messages;
+mod whole;
 
 pub use answer::{
     DelayedInvocation, EgressMessage, ExpirationSpec, FromFunction, IncompleteInvocationContext,
     InvocationResponse, OutgoingInvocation, PersistedValueMutation, PersistedValueSpec,
 };
 pub use flaw::{Flaw, FlawKind, Reason};
-pub use judging::{Judged, encode_to, judge};
+pub use judging::{ANSWER_LIMIT, Judged, judge};
 pub use request::{BatchInvocation, InvocationBatchRequest, PersistedValue, ToFunction};
+pub use whole::{decode_from, decode_to, encode_from, encode_to, size_from, size_to};
+
+#[cfg(test)]
+mod tests;

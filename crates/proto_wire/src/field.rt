@@ -1,0 +1,143 @@
+//! Fields: how a record enters a value, by the kind of its field.
+ghost use Rattle.std.specs.Prelude.{◌≡◌, ◌++◌, ◌∷◌, [], List, Some, None, Bool, ◌%◌, ◌^◌, IfOk, IfSome, IsSome, ◌↔◌, IsTrue, is_some};
+ghost use Rattle.std.specs.Str.{is_utf8};
+ghost use Rattle.proto_wire.specs.Reads.{Gives, Changes};
+ghost use Rattle.proto_wire.specs.Seen.{item_of};
+ghost use Rattle.proto_wire.specs.Message.{belongs, text_of, enum_of, long_of, bool_of, short_of, four_of, joined, entered, appended};
+
+use crate::message::{Message, merge};
+use crate::varint::place;
+use crate::{Bytes, DecodeFault, List, Mem, Record, Text, WireFault, WireKind};
+use std::alloc::Global;
+
+impl Record<'_> {
+    /// Whether the record is of the field with this number and wire type.
+    #[tactic(auto, unfolding(crate::specs::Message::belongs))]
+    pub fn is(&self, field: u32, wire: u8) -> bool
+        ensures { result ≡ belongs field wire (item_of self.now) }
+    {
+        self.field == field && self.wire == wire
+    }
+
+    /// The payload as a text. The fault is NotUtf8, at the first byte of the payload.
+    #[tactic(auto, unfolding(crate::specs::Message::text_of))]
+    pub fn text(&self, alloc: Global) -> Result<Text, DecodeFault>
+        ensures { Gives (λ text. text) result (text_of (item_of self.now)) }
+    {
+        match utf8(self.payload) {
+            Some(text) => Ok(Text::copy_of(alloc, text)?),
+            None => Err(DecodeFault::Wire(WireFault {
+                kind: WireKind::NotUtf8,
+                at: place(self.end, self.payload),
+            })),
+        }
+    }
+
+    /// A copy of the payload.
+    pub fn bytes(&self, alloc: Global) -> Mem<Bytes>
+        ensures { IfOk result (λ bytes. bytes ≡ (item_of self.now).payload) }
+    {
+        Bytes::copy_of(alloc, self.payload)
+    }
+
+    /// The number as a bool: true where it is not 0.
+    #[tactic(auto, unfolding(crate::specs::Message::bool_of))]
+    pub fn bool(&self) -> bool
+        ensures { result ≡ bool_of (item_of self.now) }
+    {
+        self.number != 0
+    }
+
+    /// The number as an enum: its low 32 bits, signed.
+    #[tactic(auto, unfolding(crate::specs::Message::enum_of))]
+    pub fn enumerated(&self) -> i32
+        ensures { result ≡ enum_of (item_of self.now) }
+    {
+        ((self.number % 0x1_0000_0000) as u32).cast_signed()
+    }
+
+    /// The number as 64 bits, signed.
+    #[tactic(auto, unfolding(crate::specs::Message::long_of))]
+    pub fn long(&self) -> i64
+        ensures { result ≡ long_of (item_of self.now) }
+    {
+        self.number.cast_signed()
+    }
+
+    /// The number of four bytes, signed; of a greater number the low 32 bits.
+    #[tactic(auto, unfolding(crate::specs::Message::four_of))]
+    pub fn four(&self) -> i32
+        ensures { result ≡ four_of (item_of self.now) }
+    {
+        ((self.number % 0x1_0000_0000) as u32).cast_signed()
+    }
+
+    /// The number as 32 bits. The fault is OverLimit, at the first byte of the number.
+    #[tactic(auto, unfolding(crate::specs::Message::short_of))]
+    pub fn short(&self) -> Result<u32, DecodeFault>
+        ensures { Gives (λ number. number) result (short_of (item_of self.now)) }
+    {
+        match u32::try_from(self.number) {
+            Ok(number) => Ok(number),
+            Err(_) => Err(DecodeFault::Wire(WireFault {
+                kind: WireKind::OverLimit,
+                at: place(self.end, self.payload),
+            })),
+        }
+    }
+}
+
+fn utf8(bytes: &[u8]) -> Option<&str>
+    ensures found { is_some result ≡ is_utf8 bytes.now }
+    ensures value { IfSome result (λ text. text.now ≡ bytes.now) }
+{
+    match std::str::from_utf8(bytes) {
+        Ok(text) => Some(text),
+        Err(_) => None,
+    }
+}
+
+/// The message that stands, or the blank one, with the payload in it.
+#[tactic(auto, unfolding(crate::specs::Message::joined))]
+pub fn joined<M: Message>(
+    alloc: Global,
+    held: Option<M>,
+    item: &Record<'_>,
+) -> Result<M, DecodeFault>
+    ensures { Gives (λ message. message) result (joined M.empty M.rows held (item_of item.now)) }
+{
+    let mut message = match held {
+        Some(message) => message,
+        None => M::blank(alloc),
+    };
+    merge(alloc, &mut message, item.end, item.payload)?;
+    Ok(message)
+}
+
+/// Takes the payload into the message that stands, or into the blank one. After an `Err` the slot is of no further use.
+#[tactic(auto, unfolding(crate::specs::Message::entered))]
+pub fn join<M: Message>(
+    alloc: Global,
+    slot: &mut Option<M>,
+    item: &Record<'_>,
+) -> Result<(), DecodeFault>
+    ensures { Changes result slot.new (entered M.empty M.rows slot.old (item_of item.now)) }
+{
+    *slot = Some(joined(alloc, slot.take(), item)?);
+    Ok(())
+}
+
+/// Adds the message of the payload to the list. An `Err` changes nothing.
+#[tactic(auto, unfolding(crate::specs::Message::appended))]
+pub fn append<M: Message>(
+    alloc: Global,
+    list: &mut List<M>,
+    item: &Record<'_>,
+) -> Result<(), DecodeFault>
+    ensures { Changes result list.new (appended M.empty M.rows list.old (item_of item.now)) }
+{
+    let mut next = M::blank(alloc);
+    merge(alloc, &mut next, item.end, item.payload)?;
+    list.push(next)?;
+    Ok(())
+}
