@@ -31,3 +31,4 @@ pub use varint::{put_varint, varint_size};
 
 #[cfg(test)]
 mod tests;
+pub use varint::{put_varint, varint_in, varint_size};
