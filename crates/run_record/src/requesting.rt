@@ -7,7 +7,7 @@ use crate::machine::Machine;
 use crate::picking::picked;
 use crate::{Endpoint, Reply, Routes};
 use proto_wire::{List, Mem, TryClone};
-use request_reply::{InvocationBatchRequest, ToFunction, encode_to};
+use request_reply::{InvocationBatchRequest, ToFunction, encode_to, size_to};
 use std::alloc::Global;
 use typed_values::Sender;
 
@@ -24,6 +24,11 @@ fn is_within(
     if letters == 0 || letters > endpoint.max_letters as usize {
         return Ok(false);
     }
+    let size = size_to(request);
+    if size < u64::MAX {
+        return Ok(size <= endpoint.max_bytes);
+    }
+    // What `size_to` says of a longer spelling is no length, so it is made.
     let bytes = encode_to(alloc, request)?;
     Ok(bytes.len() as u64 <= endpoint.max_bytes)
 }
