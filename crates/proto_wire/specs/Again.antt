@@ -4,7 +4,9 @@ use Rattle.std.proofs.lemmas.Bool.Decides.{nat_tests}
 use Rattle.std.proofs.lemmas.Bool.{cases_lt}
 use Rattle.std.proofs.Math.Seq.{take-append_seam, drop-append_seam}
 use Rattle.std.proofs.Math.Nat.{pow-suc}
-use Rattle.proto_wire.specs.Record.{Item, item, is_wire, tag_in, number_in, delimited_in, payload_in, record_in, number_record, bytes_record}
+use Rattle.std.specs.Int.{w32, w64, to_le_bytes, from_le_bytes}
+use Rattle.std.proofs.lemmas.Nat.{from_le_bytes-to_le_bytes_4, from_le_bytes-to_le_bytes_8}
+use Rattle.proto_wire.specs.Record.{Item, item, is_wire, tag_in, number_in, fixed_in, delimited_in, payload_in, record_in, number_record, bytes_record}
 use Rattle.proto_wire.specs.Varint.{place, groups, varint_in, groups_of, varint}
 
 pub below : (n limit : ℕ) → n < limit → ltb n limit ≡ true
@@ -128,3 +130,43 @@ bytes_record-again end field payload rest h k =
     ∙ record-by end (varint tag ++ behind) (tag, behind) _ (tag-again end field 2 behind h) read
     ∙ ap (λ (r : List ℕ). Ok (item end tag len (payload ++ rest) len r)) left
     ∙ ap Ok (item_is (tag / 8) (tag % 8) len (place end rest) field 2 len (place end rest) (take len (payload ++ rest)) payload rest (omega arith) (omega arith) refl taken refl)
+
+-- ---- numbers of four and eight bytes
+
+abbrev pub four_record : ℕ → ℕ → List ℕ
+four_record field number = varint (8 * field + 5) ++ to_le_bytes w32 number
+
+abbrev pub eight_record : ℕ → ℕ → List ℕ
+eight_record field number = varint (8 * field + 1) ++ to_le_bytes w64 number
+
+abbrev pub four_item : ℕ → ℕ → ℕ → List ℕ → Item
+four_item end field number rest = record { field = field; wire = 5; number = number; payload = to_le_bytes w32 number; end = place end rest }
+
+abbrev pub eight_item : ℕ → ℕ → ℕ → List ℕ → Item
+eight_item end field number rest = record { field = field; wire = 1; number = number; payload = to_le_bytes w64 number; end = place end rest }
+
+four-by : (end tag number : ℕ) (rest : List ℕ) → tag % 8 ≡ 5 → payload_in end tag (to_le_bytes w32 number ++ rest) ≡ Ok (item end tag (from_le_bytes w32 (to_le_bytes w32 number)) (to_le_bytes w32 number ++ rest) 4 rest)
+unfolding payload_in fixed_in
+four-by end tag number rest h =
+    rw (not_same (tag % 8) 0 (λ e. omega arith), not_same (tag % 8) 1 (λ e. omega arith), not_same (tag % 8) 2 (λ e. omega arith), not_below (length (to_le_bytes w32 number ++ rest)) 4 (omega arith)) refl
+
+eight-by : (end tag number : ℕ) (rest : List ℕ) → tag % 8 ≡ 1 → payload_in end tag (to_le_bytes w64 number ++ rest) ≡ Ok (item end tag (from_le_bytes w64 (to_le_bytes w64 number)) (to_le_bytes w64 number ++ rest) 8 rest)
+unfolding payload_in fixed_in
+eight-by end tag number rest h =
+    rw (not_same (tag % 8) 0 (λ e. omega arith), same (tag % 8) 1 h, not_below (length (to_le_bytes w64 number ++ rest)) 8 (omega arith)) refl
+
+pub four_record-again : (end field number : ℕ) (rest : List ℕ) → IsTag field 5 → number < 2 ^ 32 → record_in end (four_record field number ++ rest) ≡ Ok (four_item end field number rest, rest)
+four_record-again end field number rest h k =
+    let tag : ℕ = 8 * field + 5 in
+    let behind : List ℕ = to_le_bytes w32 number ++ rest in
+    ap (record_in end) (append_assoc (varint tag) (to_le_bytes w32 number) rest)
+    ∙ record-by end (varint tag ++ behind) (tag, behind) _ (tag-again end field 5 behind h) (four-by end tag number rest (omega arith))
+    ∙ ap Ok (item_is (tag / 8) (tag % 8) (from_le_bytes w32 (to_le_bytes w32 number)) (place end rest) field 5 number (place end rest) (to_le_bytes w32 number) (to_le_bytes w32 number) rest (omega arith) (omega arith) (from_le_bytes-to_le_bytes_4 number k) refl refl)
+
+pub eight_record-again : (end field number : ℕ) (rest : List ℕ) → IsTag field 1 → number < 2 ^ 64 → record_in end (eight_record field number ++ rest) ≡ Ok (eight_item end field number rest, rest)
+eight_record-again end field number rest h k =
+    let tag : ℕ = 8 * field + 1 in
+    let behind : List ℕ = to_le_bytes w64 number ++ rest in
+    ap (record_in end) (append_assoc (varint tag) (to_le_bytes w64 number) rest)
+    ∙ record-by end (varint tag ++ behind) (tag, behind) _ (tag-again end field 1 behind h) (eight-by end tag number rest (omega arith))
+    ∙ ap Ok (item_is (tag / 8) (tag % 8) (from_le_bytes w64 (to_le_bytes w64 number)) (place end rest) field 1 number (place end rest) (to_le_bytes w64 number) (to_le_bytes w64 number) rest (omega arith) (omega arith) (from_le_bytes-to_le_bytes_8 number k) refl refl)

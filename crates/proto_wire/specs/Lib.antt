@@ -7,3 +7,4 @@ pub mod Counts
 pub mod Again
 pub mod Scans
 pub mod Steps
+pub mod Places

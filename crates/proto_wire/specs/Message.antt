@@ -1,10 +1,10 @@
 -- Messages as tables of fields (Protocol Buffers encoding guide).
-use Rattle.std.specs.Prelude.{ℕ, ◌%◌, ◌^◌, ◌-◌, min, ℤ, pos, negsuc, Bool, true, false, not, List, [], ◌∷◌, ◌++◌, Option, Some, None, Result, Ok, Err, nat_lt, ◌==◌, ◌&&◌, if◌then◌else◌}
-use Rattle.std.specs.Int.{w32, w64, cast_signed, cast_unsigned}
+use Rattle.std.specs.Prelude.{ℕ, ◌+◌, ◌*◌, ◌%◌, ◌^◌, ◌-◌, min, ℤ, pos, negsuc, Bool, true, false, not, List, [], ◌∷◌, ◌++◌, Option, Some, None, Result, Ok, Err, nat_lt, ◌==◌, ◌&&◌, if◌then◌else◌}
+use Rattle.std.specs.Int.{w32, w64, cast_signed, cast_unsigned, to_le_bytes}
 use Rattle.std.specs.Str.{is_utf8}
 use Rattle.proto_wire.specs.declared.fault.WireFault.{WireFault}
-use Rattle.proto_wire.specs.declared.fault.WireKind.TheVariants.{NotUtf8, OverLimit}
-use Rattle.proto_wire.specs.Varint.{◌>>=◌, fault}
+use Rattle.proto_wire.specs.declared.fault.WireKind.TheVariants.{NotUtf8, NoMember, OverLimit}
+use Rattle.proto_wire.specs.Varint.{◌>>=◌, fault, varint}
 use Rattle.proto_wire.specs.Record.{Item, Scan, Whole, Broken, Then, records_in, number_record, bytes_record}
 
 -- one field of a message: its number, its wire type, how a record of it enters the value, how it is spelled, and whether what it holds has a spelling
@@ -117,6 +117,27 @@ unfoldable pub fit_messages : {M : Type 0} → List (Row M) → List M → Bool
 fit_messages rows [] = true
 fit_messages rows (value ∷ values) = fit rows value && fit_messages rows values
 
+-- ---- members of a oneof and wrappers
+
+-- a member that is a number is spelled also where it is 0
+unfoldable pub spelled_choice : ℕ → Option ℕ → List ℕ
+spelled_choice field None = []
+spelled_choice field (Some number) = number_record field number
+
+unfoldable pub fit_choice : Option ℕ → Bool
+fit_choice None = true
+fit_choice (Some number) = nat_lt number (2 ^ 32)
+
+-- a signed number in four or in eight bytes
+unfoldable pub spelled_four : ℕ → ℤ → List ℕ
+spelled_four field number = if cast_unsigned w32 number == 0 then [] else varint (8 * field + 5) ++ to_le_bytes w32 (cast_unsigned w32 number)
+
+unfoldable pub spelled_eight : ℕ → ℤ → List ℕ
+spelled_eight field number = if cast_unsigned w64 number == 0 then [] else varint (8 * field + 1) ++ to_le_bytes w64 (cast_unsigned w64 number)
+
+unfoldable pub four_of : Item → ℤ
+four_of item = cast_signed w32 (item.number % 2 ^ 32)
+
 -- ---- the kinds of fields: `put value x` is the value with x in the field
 
 abbrev pub texts : {M : Type 0} → ℕ → (M → List ℕ) → (M → List ℕ → M) → Row M
@@ -148,6 +169,21 @@ lists blank rows field get put = record { field = field; wire = 2; enters = λ v
 -- a member of a oneof: it goes on from itself where it stands, and takes the place of another one
 abbrev pub members : {M N : Type 0} → N → List (Row N) → ℕ → (M → Option N) → (M → N → M) → Row M
 members blank rows field get put = record { field = field; wire = 2; enters = λ value item. joined blank rows (get value) item >>= λ next. Ok (put value next); spells = λ value. spelled_message rows field (get value); fits = λ value. fit_message rows (get value) }
+
+-- a member of a oneof that is a number of 32 bits
+abbrev pub choices : {M : Type 0} → ℕ → (M → Option ℕ) → (M → ℕ → M) → Row M
+choices field get put = record { field = field; wire = 0; enters = λ value item. short_of item >>= λ number. Ok (put value number); spells = λ value. spelled_choice field (get value); fits = λ value. fit_choice (get value) }
+
+abbrev pub fours : {M : Type 0} → ℕ → (M → ℤ) → (M → ℤ → M) → Row M
+fours field get put = record { field = field; wire = 5; enters = λ value item. Ok (put value (four_of item)); spells = λ value. spelled_four field (get value); fits = λ value. fits_signed 31 (get value) }
+
+abbrev pub eights : {M : Type 0} → ℕ → (M → ℤ) → (M → ℤ → M) → Row M
+eights field get put = record { field = field; wire = 1; enters = λ value item. Ok (put value (long_of item)); spells = λ value. spelled_eight field (get value); fits = λ value. fits_signed 63 (get value) }
+
+-- what a message needs has to be there; the fault is placed at the end of the input
+abbrev pub present : {A : Type 0} → ℕ → Option A → Result A WireFault
+present end (Some value) = Ok value
+present end None = Err (record { kind = NoMember; at = end })
 
 -- a length, or 2 ^ 64 - 1 where it is greater
 abbrev pub capped : ℕ → ℕ

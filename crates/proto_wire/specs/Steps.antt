@@ -9,9 +9,9 @@ use Rattle.std.proofs.lemmas.List.{append-nil}
 use Rattle.std.proofs.lemmas.Bool.{eqb-true, ltb-true}
 use Rattle.proto_wire.specs.Varint.{◌>>=◌, place}
 use Rattle.proto_wire.specs.Record.{Item, record_in, number_record, bytes_record}
-use Rattle.proto_wire.specs.Message.{Row, accepted, value_in, spelling, fit, text_of, enum_of, long_of, bool_of, joined, entered, appended, spelled_bytes, spelled_number, spelled_bool, spelled_signed, spelled_message, spelled_messages, fits_signed, fit_message, fit_messages}
+use Rattle.proto_wire.specs.Message.{Row, accepted, value_in, spelling, fit, text_of, enum_of, long_of, bool_of, joined, entered, appended, spelled_bytes, spelled_number, spelled_bool, spelled_signed, spelled_message, spelled_messages, fits_signed, fit_message, fit_messages, short_of, four_of, spelled_four, spelled_eight}
 use Rattle.proto_wire.specs.Scans.{value_in-end, value_in-accepted, record_in-shortest}
-use Rattle.proto_wire.specs.Again.{IsTag, number_item, bytes_item, number_record-again, bytes_record-again, below}
+use Rattle.proto_wire.specs.Again.{IsTag, number_item, bytes_item, number_record-again, bytes_record-again, below, four_record, eight_record, four_item, eight_item, four_record-again, eight_record-again}
 
 -- reading these bytes at the front makes `after` of `before`
 pub record Steps {M : Type 0} (rows : List (Row M)) (before after : M) (spelled : List ℕ) : Type 0 where
@@ -153,6 +153,61 @@ enums-steps rows field before put z tag fits blank takes =
     number-steps rows field before enum_of put z (cast_unsigned w64 z) tag (unsigned-fits z long) (λ e. ap put (unsigned-zero z long e) ∙ blank)
     (λ end rest. ap (cast_signed w32) (low-bits z fits) ∙ to_z-of_z w32 z (signed-fits w32 31 z refl fits)) takes
 
+-- ---- numbers of four and eight bytes
+
+-- a number that is spelled as another in a record of its own, where it is not 0, and read back from it
+fixed-steps : {M : Type 0} (rows : List (Row M)) (before : M) (put : ℤ → M) (z : ℤ) (number : ℕ) (spelled : List ℕ) (item : ℕ → List ℕ → Item)
+    → (number ≡ 0 → z ≡ pos 0) → put (pos 0) ≡ before → ((end : ℕ) (rest : List ℕ) → record_in end (spelled ++ rest) ≡ Ok (item end rest, rest))
+    → ((end : ℕ) (rest : List ℕ) → accepted rows before (item end rest) ≡ Ok (put z)) → Steps rows before (put z) (cond (eqb number 0) [] spelled)
+fixed-steps rows before put z number spelled item none blank read takes = step (eqb number 0) refl
+  where
+    step : (b : Bool) → eqb number 0 ≡ b → Steps rows before (put z) (cond b [] spelled)
+    step true e = let P = λ (m : _). Steps rows before m [] in subst P (sym (ap put (none (eqb-true number 0 e)) ∙ blank)) (steps-nil rows before)
+    step false e = steps-record rows before (put z) spelled item read takes
+
+short-fits : (z : ℤ) → fits_signed 31 z ≡ true → cast_unsigned w32 z < 2 ^ 32
+unfolding fits_signed
+short-fits (pos n) h = let lt : n < 2 ^ 31 = ltb-true _ _ h in omega arith
+short-fits (negsuc n) h = omega arith
+
+short-zero : (z : ℤ) → fits_signed 31 z ≡ true → cast_unsigned w32 z ≡ 0 → z ≡ pos 0
+unfolding fits_signed
+short-zero (pos n) h e = ap pos e
+short-zero (negsuc n) h e = let lt : n < 2 ^ 31 = ltb-true _ _ h in absurd (omega arith)
+
+short-low : (n : ℕ) → n < 2 ^ 32 → n % 2 ^ 32 ≡ n
+short-low n h = omega arith
+
+pub fours-steps : {M : Type 0} (rows : List (Row M)) (field : ℕ) (before : M) (put : ℤ → M) (z : ℤ) → IsTag field 5 → fits_signed 31 z ≡ true → put (pos 0) ≡ before
+    → ((end number : ℕ) (rest : List ℕ) → accepted rows before (four_item end field number rest) ≡ Ok (put (four_of (four_item end field number rest)))) → Steps rows before (put z) (spelled_four field z)
+unfolding spelled_four four_of
+fours-steps rows field before put z tag fits blank takes =
+    let n : ℕ = cast_unsigned w32 z in
+    let short : n < 2 ^ 32 = short-fits z fits in
+    let back : cast_signed w32 (n % 2 ^ 32) ≡ z = ap (cast_signed w32) (short-low n short) ∙ to_z-of_z w32 z (signed-fits w32 31 z refl fits) in
+    fixed-steps rows before put z n (four_record field n) (λ end rest. four_item end field n rest) (short-zero z fits) blank (λ end rest. four_record-again end field n rest tag short)
+    (λ end rest. takes end n rest ∙ ap (λ (a : ℤ). Ok (put a)) back)
+
+pub eights-steps : {M : Type 0} (rows : List (Row M)) (field : ℕ) (before : M) (put : ℤ → M) (z : ℤ) → IsTag field 1 → fits_signed 63 z ≡ true → put (pos 0) ≡ before
+    → ((end number : ℕ) (rest : List ℕ) → accepted rows before (eight_item end field number rest) ≡ Ok (put (long_of (eight_item end field number rest)))) → Steps rows before (put z) (spelled_eight field z)
+unfolding spelled_eight long_of
+eights-steps rows field before put z tag fits blank takes =
+    let n : ℕ = cast_unsigned w64 z in
+    let short : n < 2 ^ 64 = unsigned-fits z fits in
+    let back : cast_signed w64 n ≡ z = to_z-of_z w64 z (signed-fits w64 63 z refl fits) in
+    fixed-steps rows before put z n (eight_record field n) (λ end rest. eight_item end field n rest) (unsigned-zero z fits) blank (λ end rest. eight_record-again end field n rest tag short)
+    (λ end rest. takes end n rest ∙ ap (λ (a : ℤ). Ok (put a)) back)
+
+-- a member of a oneof that is a number
+pub choice-steps : {M : Type 0} (rows : List (Row M)) (field : ℕ) (before : M) (put : ℕ → M) (number : ℕ) → IsTag field 0 → ltb number (2 ^ 32) ≡ true
+    → ((end number : ℕ) (rest : List ℕ) → accepted rows before (number_item end field number rest) ≡ (short_of (number_item end field number rest) >>= λ n. Ok (put n)))
+    → Steps rows before (put number) (number_record field number)
+unfolding short_of
+choice-steps rows field before put number tag fits takes =
+    let short : number < 2 ^ 32 = ltb-true _ _ fits in
+    steps-record rows before (put number) (number_record field number) (λ end rest. number_item end field number rest) (λ end rest. number_record-again end field number rest tag (omega arith))
+    (λ end rest. takes end number rest ∙ rw fits refl)
+
 -- ---- messages
 
 -- the spelling of each fit message is read as that message
@@ -213,3 +268,12 @@ pub members-steps : {M N : Type 0} (rows : List (Row M)) (field : ℕ) (before :
 unfolding joined
 members-steps rows field before blank inner put value again tag fits short takes =
     message-steps rows field before (put value) blank inner value again tag fits short (λ end payload rest e. takes end payload rest ∙ rw e refl)
+
+-- ---- a spelling that was written
+
+pub written-again : {M : Type 0} (blank : M) (rows : List (Row M)) → IsAgain blank rows → (into bytes : List ℕ) (value : M) → into ≡ [] → bytes ≡ into ++ spelling rows value → fit rows value ≡ true
+    → length bytes < 2 ^ 64 → value_in rows blank (length bytes) bytes ≡ Ok value
+written-again blank rows again into bytes value none spelled fits short =
+    let e : bytes ≡ spelling rows value = spelled ∙ ap (λ (s : List ℕ). s ++ spelling rows value) none in
+    let P : List ℕ → Type 0 = λ s. length s < 2 ^ 64 → value_in rows blank (length s) s ≡ Ok value in
+    subst P (sym e) (λ k. again value fits k (length (spelling rows value))) short

@@ -59,6 +59,11 @@ impl Bytes {
         self.items.as_slice()
     }
 
+    /// The allocator of the bytes.
+    pub fn allocator(&self) -> Global {
+        *self.items.allocator()
+    }
+
     /// How many bytes there are.
     pub fn len(&self) -> usize
         ensures { result ≡ length self.now }

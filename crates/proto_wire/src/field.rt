@@ -3,7 +3,7 @@ ghost use Rattle.std.specs.Prelude.{◌≡◌, ◌++◌, ◌∷◌, [], List, So
 ghost use Rattle.std.specs.Str.{is_utf8};
 ghost use Rattle.proto_wire.specs.Reads.{Gives, Changes};
 ghost use Rattle.proto_wire.specs.Seen.{item_of};
-ghost use Rattle.proto_wire.specs.Message.{belongs, text_of, enum_of, long_of, bool_of, short_of, joined, entered, appended};
+ghost use Rattle.proto_wire.specs.Message.{belongs, text_of, enum_of, long_of, bool_of, short_of, four_of, joined, entered, appended};
 
 use crate::message::{Message, merge};
 use crate::varint::place;
@@ -62,6 +62,14 @@ impl Record<'_> {
         ensures { result ≡ long_of (item_of self.now) }
     {
         self.number.cast_signed()
+    }
+
+    /// The number of four bytes, signed; of a greater number the low 32 bits.
+    #[tactic(auto, unfolding(crate::specs::Message::four_of))]
+    pub fn four(&self) -> i32
+        ensures { result ≡ four_of (item_of self.now) }
+    {
+        ((self.number % 0x1_0000_0000) as u32).cast_signed()
     }
 
     /// The number as 32 bits. The fault is OverLimit, at the first byte of the number.
@@ -128,8 +136,8 @@ pub fn append<M: Message>(
 ) -> Result<(), DecodeFault>
     ensures { Changes result list.new (appended M.empty M.rows list.old (item_of item.now)) }
 {
-    let mut message = M::blank(alloc);
-    merge(alloc, &mut message, item.end, item.payload)?;
-    list.push(message)?;
+    let mut next = M::blank(alloc);
+    merge(alloc, &mut next, item.end, item.payload)?;
+    list.push(next)?;
     Ok(())
 }

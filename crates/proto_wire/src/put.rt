@@ -3,7 +3,7 @@ ghost use Rattle.std.specs.Prelude.{◌≡◌, ◌+◌, ◌*◌, ◌++◌, ◌�
 ghost use Rattle.proto_wire.specs.Varint.{varint};
 ghost use Rattle.proto_wire.specs.Reads.{Keeps};
 ghost use Rattle.proto_wire.specs.Record.{number_record, bytes_record};
-ghost use Rattle.proto_wire.specs.Message.{capped, spelling, spelled_bytes, spelled_number, spelled_bool, spelled_signed, spelled_message, spelled_messages, fit, fits_signed, fit_message, fit_messages};
+ghost use Rattle.proto_wire.specs.Message.{capped, spelling, spelled_bytes, spelled_number, spelled_bool, spelled_signed, spelled_message, spelled_messages, spelled_choice, spelled_four, spelled_eight, fit_choice, fit, fits_signed, fit_message, fit_messages};
 ghost use Rattle.std.specs.Str.{is_utf8};
 
 use crate::message::Message;
@@ -160,8 +160,8 @@ fn tag_size(field: u32, wire: u64) -> u64
     varint_size(8 * u64::from(field) + wire)
 }
 
-/// The length of a record with that many bytes.
-fn record_size(field: u32, len: u64) -> u64
+/// The length of a record with that many bytes, or `u64::MAX` where it is greater.
+pub fn record_size(field: u32, len: u64) -> u64
     ensures { result ≡ capped (length (varint (8 * field + 2)) + length (varint len) + len) }
 {
     (tag_size(field, 2) + varint_size(len)).saturating_add(len)
@@ -239,4 +239,98 @@ pub fn messages_size<M: Message>(field: u32, messages: &[M]) -> u64
         size = size.saturating_add(member_size(field, message));
     }
     size
+}
+
+/// Adds the head of a record with that many bytes: its tag and their length.
+pub fn with_head(into: Bytes, field: u32, len: u64) -> Mem<Bytes>
+    ensures { IfOk result (λ bytes. bytes ≡ into ++ (varint (8 * field + 2) ++ varint len)) }
+{
+    let into = with_varint(into, 8 * u64::from(field) + 2)?;
+    with_varint(into, len)
+}
+
+/// Adds a number of 32 bits, also 0, where there is one.
+#[tactic(auto, unfolding(crate::specs::Message::spelled_choice, crate::specs::Message::fit_choice))]
+pub fn with_choice(into: Bytes, field: u32, number: Option<u32>) -> Mem<Bytes>
+    ensures spelled { IfOk result (λ bytes. bytes ≡ into ++ spelled_choice field number) }
+    ensures fits { OnOk result (fit_choice number ≡ true) }
+{
+    match number {
+        Some(number) => with_choice_of(into, field, number),
+        None => Ok(into),
+    }
+}
+
+fn with_choice_of(into: Bytes, field: u32, number: u32) -> Mem<Bytes>
+    ensures spelled { IfOk result (λ bytes. bytes ≡ into ++ number_record field number) }
+    ensures fits { OnOk result (nat_lt number (2 ^ 32) ≡ true) }
+{
+    let into = with_varint(into, 8 * u64::from(field))?;
+    with_varint(into, u64::from(number))
+}
+
+/// Adds a signed number in four bytes, where it is not 0.
+#[tactic(auto, using(crate::proofs::Fit::fit_steps), unfolding(crate::specs::Message::spelled_four))]
+pub fn with_four(into: Bytes, field: u32, number: i32) -> Mem<Bytes>
+    ensures spelled { IfOk result (λ bytes. bytes ≡ into ++ spelled_four field number) }
+    ensures fits { OnOk result (fits_signed 31 number ≡ true) }
+{
+    let bits = number.cast_unsigned();
+    if bits == 0 {
+        return Ok(into);
+    }
+    let mut into = with_varint(into, 8 * u64::from(field) + 5)?;
+    into.append(&bits.to_le_bytes())?;
+    Ok(into)
+}
+
+/// Adds a signed number in eight bytes, where it is not 0.
+#[tactic(auto, using(crate::proofs::Fit::fit_steps), unfolding(crate::specs::Message::spelled_eight))]
+pub fn with_eight(into: Bytes, field: u32, number: i64) -> Mem<Bytes>
+    ensures spelled { IfOk result (λ bytes. bytes ≡ into ++ spelled_eight field number) }
+    ensures fits { OnOk result (fits_signed 63 number ≡ true) }
+{
+    let bits = number.cast_unsigned();
+    if bits == 0 {
+        return Ok(into);
+    }
+    let mut into = with_varint(into, 8 * u64::from(field) + 1)?;
+    into.append(&bits.to_le_bytes())?;
+    Ok(into)
+}
+
+/// The length of what `with_choice` adds.
+#[tactic(auto, unfolding(crate::specs::Message::spelled_choice))]
+pub fn choice_size(field: u32, number: Option<u32>) -> u64
+    ensures size { result ≡ length (spelled_choice field number) }
+    ensures most { result ≤ 20 }
+{
+    match number {
+        Some(number) => tag_size(field, 0) + varint_size(u64::from(number)),
+        None => 0,
+    }
+}
+
+/// The length of what `with_four` adds.
+#[tactic(auto, unfolding(crate::specs::Message::spelled_four))]
+pub fn four_size(field: u32, number: i32) -> u64
+    ensures size { result ≡ length (spelled_four field number) }
+    ensures most { result ≤ 14 }
+{
+    if number.cast_unsigned() == 0 {
+        return 0;
+    }
+    tag_size(field, 5) + 4
+}
+
+/// The length of what `with_eight` adds.
+#[tactic(auto, unfolding(crate::specs::Message::spelled_eight))]
+pub fn eight_size(field: u32, number: i64) -> u64
+    ensures size { result ≡ length (spelled_eight field number) }
+    ensures most { result ≤ 18 }
+{
+    if number.cast_unsigned() == 0 {
+        return 0;
+    }
+    tag_size(field, 1) + 8
 }

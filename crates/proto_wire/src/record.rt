@@ -4,6 +4,7 @@ ghost use Rattle.std.specs.Int.{w32, w64};
 ghost use Rattle.proto_wire.specs.Varint.{place};
 ghost use Rattle.proto_wire.specs.Reads.{Reads};
 ghost use Rattle.proto_wire.specs.Record.{tag_in, fixed_in, delimited_in, number_in, payload_in, record_in, is_wire};
+ghost use Rattle.proto_wire.specs.Places.{next_record};
 ghost use Rattle.proto_wire.specs.Seen.{item_of};
 
 use crate::varint::{place, varint_in};
@@ -148,4 +149,42 @@ pub fn record_in(end: usize, bytes: &[u8]) -> Result<(Record<'_>, &[u8]), WireFa
 {
     let (tag, rest) = tag_in(end, bytes)?;
     payload_in(end, tag, rest)
+}
+
+/// One record by its places in the input.
+#[derive(Clone, Copy, Debug, PartialEq, Eq)]
+pub struct WireRecord {
+    pub field: u32,
+    /// 0 a varint, 1 eight bytes, 2 a length and that many bytes, 5 four bytes.
+    pub wire: u8,
+    /// The varint or the fixed number; for wire 2 the length.
+    pub number: u64,
+    /// The place of the payload's first byte; for wire 2 of the first byte behind the length.
+    pub start: usize,
+    /// The length of the payload.
+    pub len: usize,
+    /// The place behind the record.
+    pub next: usize,
+}
+
+/// Reads the record at `at` of a message that ends at `end`. `None` exactly where `at` is `end`; else the record, or its first fault, whose kind is Truncated,
+/// LongVarint, TagTooLarge, FieldZero or WireType.
+#[tactic(auto, unfolding(crate::specs::Places::next_record))]
+pub fn next_record(bytes: &[u8], at: usize, end: usize) -> Result<Option<WireRecord>, WireFault>
+    requires ordered { at ≤ end }
+    requires within { end ≤ length bytes.now }
+    ensures { result ≡ next_record bytes.now at end }
+{
+    if at == end {
+        return Ok(None);
+    }
+    let (record, _) = record_in(end, &bytes[at..end])?;
+    Ok(Some(WireRecord {
+        field: record.field,
+        wire: record.wire,
+        number: record.number,
+        start: place(record.end, record.payload),
+        len: record.payload.len(),
+        next: record.end,
+    }))
 }

@@ -1,9 +1,8 @@
 -- The canonical spellings, and the values that bytes spell.
 use Rattle.std.specs.Prelude.{ℕ, List, length, Option, None, Some, Result, Ok, Err}
 use Rattle.proto_wire.specs.declared.fault.WireFault.{WireFault}
-use Rattle.proto_wire.specs.declared.fault.WireKind.TheVariants.{NoMember}
 use Rattle.proto_wire.specs.Varint.{◌>>=◌}
-use Rattle.proto_wire.specs.Message.{spelling, value_in}
+use Rattle.proto_wire.specs.Message.{spelling, value_in, present}
 use Rattle.request_reply.specs.declared.request.ToFunction.{ToFunction}
 use Rattle.request_reply.specs.declared.answer.FromFunction.{FromFunction}
 use Rattle.request_reply.specs.Oneofs.{no_request, to_rows, no_answer, from_rows}
@@ -15,11 +14,6 @@ to_spelling request = spelling to_rows (record { member = Some request })
 -- the canonical spelling of an answer
 unfoldable pub from_spelling : FromFunction → List ℕ
 from_spelling answer = spelling from_rows (record { member = Some answer })
-
--- a member has to be there; the fault is placed at the end of the input
-abbrev pub present : {A : Type 0} → ℕ → Option A → Result A WireFault
-present end (Some value) = Ok value
-present end None = Err (record { kind = NoMember; at = end })
 
 -- the request that the bytes spell, or their first fault
 unfoldable pub to_value : List ℕ → Result ToFunction WireFault

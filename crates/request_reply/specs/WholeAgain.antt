@@ -3,7 +3,7 @@ use Rattle.std.proofs.Common.{◌≡◌, ℕ, ◌^◌, ◌<◌, true, List, [], 
 use Rattle.proto_wire.specs.declared.fault.WireFault.{WireFault}
 use Rattle.proto_wire.specs.Varint.{◌>>=◌}
 use Rattle.proto_wire.specs.Record.{bytes_record}
-use Rattle.proto_wire.specs.Message.{belongs, spelling, fit, spelled_message}
+use Rattle.proto_wire.specs.Message.{present, belongs, spelling, fit, spelled_message}
 use Rattle.proto_wire.specs.Steps.{len-both, steps-nil, steps-then, steps-whole, members-steps}
 use Rattle.request_reply.specs.declared.request.ToFunction.TheVariants.{Invocation}
 use Rattle.request_reply.specs.declared.request.InvocationBatchRequest.{InvocationBatchRequest}
@@ -15,7 +15,7 @@ use Rattle.request_reply.specs.declared.whole.FromRead.{FromRead}
 use Rattle.request_reply.specs.RequestTables.{empty_batch, batch_rows}
 use Rattle.request_reply.specs.AnswerTables.{empty_response, response_rows, empty_context, context_rows}
 use Rattle.request_reply.specs.Oneofs.{batch_of, response_of, context_of, no_request, to_rows, no_answer, from_rows}
-use Rattle.request_reply.specs.Spelling.{to_spelling, from_spelling, present, to_value, from_value}
+use Rattle.request_reply.specs.Spelling.{to_spelling, from_spelling, to_value, from_value}
 use Rattle.request_reply.specs.RequestAgain.{batch-again}
 use Rattle.request_reply.specs.AnswerAgain.{response-again, context-again}
 

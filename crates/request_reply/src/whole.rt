@@ -2,8 +2,6 @@
 ghost use Rattle.std.specs.Prelude.{◌≡◌, ◌++◌, length, IfOk, Ok};
 ghost use Rattle.request_reply.specs.declared.request.ToFunction.TheVariants.{Invocation};
 ghost use Rattle.request_reply.specs.declared.answer.FromFunction.TheVariants.{Result, Incomplete};
-ghost use Rattle.proto_wire.specs.declared.fault.DecodeFault.TheVariants.{Wire};
-ghost use Rattle.proto_wire.specs.declared.fault.WireKind.TheVariants.{NoMember};
 ghost use Rattle.proto_wire.specs.Reads.{Gives};
 ghost use Rattle.proto_wire.specs.Message.{capped};
 ghost use Rattle.request_reply.specs.Oneofs.{no_request, to_rows, no_answer, from_rows};
@@ -14,8 +12,8 @@ use crate::{
     ToFunction,
 };
 use proto_wire::{
-    Bytes, DecodeFault, Mem, Message, Record, WireFault, WireKind, joined, member_size, merge,
-    with_member,
+    Bytes, DecodeFault, Mem, Message, Record, joined, member_size, merge,
+    no_member, with_member,
 };
 use std::alloc::Global;
 
@@ -213,13 +211,4 @@ pub fn decode_from(alloc: Global, bytes: &[u8]) -> Result<FromFunction, DecodeFa
         Some(answer) => Ok(answer),
         None => Err(no_member(bytes)),
     }
-}
-
-fn no_member(bytes: &[u8]) -> DecodeFault
-    ensures { result ≡ Wire (record { kind = NoMember; at = length bytes.now }) }
-{
-    DecodeFault::Wire(WireFault {
-        kind: WireKind::NoMember,
-        at: bytes.len(),
-    })
 }

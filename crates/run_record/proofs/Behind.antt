@@ -56,8 +56,10 @@ module _ {A B X : Type 0} {R : A → A → Ordering} {S : B → B → Ordering} 
     where
       had : before a b ≡ (base a b ++ values_at R S items a b) ++ map (λ (item : Placed A B X). item.value) (cond (is_eq (R item.outer a) && is_eq (S item.inner b)) (item ∷ []) [])
       had = has a b ∙ ap (λ xs. base a b ++ xs) (values_at-append items (item ∷ []) a b) ∙ sym (append_assoc (base a b) (values_at R S items a b) (values_at R S (item ∷ []) a b))
+
       had_at : (t : Bool) → (is_eq (R item.outer a) && is_eq (S item.inner b)) ≡ t → before a b ≡ (base a b ++ values_at R S items a b) ++ map (λ (item : Placed A B X). item.value) (cond t (item ∷ []) [])
       had_at t e = had ∙ ap (λ x. (base a b ++ values_at R S items a b) ++ map (λ (item : Placed A B X). item.value) (cond x (item ∷ []) [])) e
+
       go : (((is_eq (R item.outer a) && is_eq (S item.inner b)) ≡ true) × (after a b ≡ take (length (before item.outer item.inner) - 1) (before item.outer item.inner)) × (before item.outer item.inner ≡ before a b)) ⊎ (((is_eq (R item.outer a) && is_eq (S item.inner b)) ≡ false) × (after a b ≡ before a b)) → after a b ≡ base a b ++ values_at R S items a b
       go (inl (t, e, f)) = e ∙ ap (λ xs. take (length xs - 1) xs) (f ∙ had_at true t) ∙ without_last (base a b ++ values_at R S items a b) item.value
       go (inr (t, e)) = e ∙ had_at false t ∙ append-nil (base a b ++ values_at R S items a b)

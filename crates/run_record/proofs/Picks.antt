@@ -12,7 +12,7 @@ use Rattle.run_record.specs.Queues.{ChangesIn, SetsAt}
 use Rattle.run_record.specs.Machine.{Mail, invocation_of, picked_behind, picked, unpicked}
 
 -- how often a sender is picked, one pick further on
-count-push : (sender pick : Sender) (picks : List Sender) → count_by (same_sender sender) (picks ++ pick ∷ []) ≡ count_by (same_sender sender) picks + cond (same_sender sender pick) 1 0
+pub count-push : (sender pick : Sender) (picks : List Sender) → count_by (same_sender sender) (picks ++ pick ∷ []) ≡ count_by (same_sender sender) picks + cond (same_sender sender pick) 1 0
 count-push sender pick picks = sum_by-append (λ x. cond (same_sender sender x) 1 0) picks (pick ∷ []) ∙ ap (λ n. count_by (same_sender sender) picks + n) (zero-add (cond (same_sender sender pick) 1 0))
 
 pub same_itself : (sender : Sender) → same_sender sender sender ≡ true
@@ -94,10 +94,13 @@ unpicked-more address picks i pick mail before after inside at was changes sende
   where
     counted : count_by (same_sender sender) (take (i + 1) picks) ≡ count_by (same_sender sender) (take i picks) + cond (same_sender sender pick) 1 0
     counted = ap (count_by (same_sender sender)) (take_more picks i pick inside ∙ ap (λ x. take i picks ++ x ∷ []) (sym at)) ∙ count-push sender pick (take i picks)
+
     was_at : (b : Bool) → same_address address target ≡ b → before sender target ≡ cond b (drop (count_by (same_sender sender) (take i picks)) (mail sender target)) (mail sender target)
     was_at b e = was sender target ∙ ap (λ b. cond b (drop (count_by (same_sender sender) (take i picks)) (mail sender target)) (mail sender target)) e
+
     ends_at : (b : Bool) (n : ℕ) → same_address address target ≡ b → count_by (same_sender sender) (take (i + 1) picks) ≡ n → cond b (drop n (mail sender target)) (mail sender target) ≡ unpicked address (take (i + 1) picks) mail sender target
     ends_at b n e f = ap (λ b. cond b (drop n (mail sender target)) (mail sender target)) (sym e) ∙ ap (λ n. cond (same_address address target) (drop n (mail sender target)) (mail sender target)) (sym f)
+
     go : (((same_address address target ≡ true) × (target ≡ address)) ⊎ ((same_address address target ≡ false) × (target ≡ address → ⊥))) → (((same_sender sender pick ≡ true) × (sender ≡ pick)) ⊎ ((same_sender sender pick ≡ false) × (sender ≡ pick → ⊥))) → after sender target ≡ unpicked address (take (i + 1) picks) mail sender target
     go (inr (e, apart)) s = changes.others target apart sender ∙ was_at false e ∙ ends_at false (count_by (same_sender sender) (take (i + 1) picks)) e refl
     go (inl (e, here)) (inr (f, apart)) =

@@ -1,5 +1,5 @@
 -- What follows from the definitions of the machine: of steps, of replay and of backing.
-use Rattle.std.specs.Prelude.{◌≡◌, ℕ, ◌+◌, ◌<◌, ◌≤◌, nat_lt, nat_le, List, [], ◌∷◌, ◌++◌, length, Bool, true, false, cond, Option, Some, None, IfSome, Contains, zero, suc, slice_get, get_or, unwrap_or, option_and_then, refl}
+use Rattle.std.specs.Prelude.{◌≡◌, ℕ, ◌+◌, ◌^◌, ◌<◌, ◌≤◌, if◌then◌else◌, nat_lt, nat_le, List, [], ◌∷◌, ◌++◌, length, Bool, true, false, cond, Option, Some, None, IfSome, Contains, zero, suc, slice_get, get_or, unwrap_or, option_and_then, refl}
 use Rattle.std.specs.Option.{option_map}
 use Rattle.std.proofs.Common.{sym, ◌∙◌, ap, subst, arith, append_assoc, ltb-true, lt-ltb, leb-true, le-leb, length-append}
 use Rattle.std.proofs.lemmas.List.{get_or_append_left}
@@ -171,7 +171,7 @@ reply_backed-more exchanges more m st reply extended is =
       url = is.url;
       at_url = is.at_url;
       exchanged = let P : List Exchange → Type 0 = λ all. Contains all (record { call = reply.call; url = is.url; request = to_spelling is.request; answer = reply.answer }) in
-        subst P (sym extended.1) (contains-append exchanges extended.0 _ is.exchanged);
+          subst P (sym extended.1) (contains-append exchanges extended.0 _ is.exchanged);
     }
 
 pub step_backed-more : (exchanges more : List Exchange) (m : Module) (st : State) (step : Step) → Extends exchanges more → IsBackedStep exchanges m st step → IsBackedStep more m st step
@@ -214,3 +214,27 @@ AreBacked-grown exchanges m old new st last (entry ∷ entries) grown e backed =
     let first = some_from_and_then (λ next. replayed m old next entries) (step_after m old st entry.step) last e in
     let here : IfSome (step_after m old st entry.step) (λ next. AreBacked exchanges m old next entries) = backed.1 in
     (backed.0, rw (step_after-grown m old new st first.0 entry.step grown first.1) (AreBacked-grown exchanges m old new first.0 last entries grown first.2 (rw first.1 at here)))
+
+-- ---- a step where the next record is known
+
+-- the record that a step would take
+abbrev pub next_record : Lists → State → Step → Option IngressRecord
+next_record lists st (Take split) = record_at lists split (st.taken split)
+next_record lists st (Batch reply) = None
+
+-- the state after a step, where the split's next record is this one
+unfoldable pub step_with : Module → Option IngressRecord → State → Step → Option State
+step_with m found st (Take split) = if nat_lt split (splits_in m.ingresses) then option_map (λ next. took m split next st) found else None
+step_with m found st (Batch reply) = batch_step m reply st
+
+-- a step over lists is the step with their next record
+pub step_after-with : (m : Module) (lists : Lists) (st : State) (step : Step) → step_after m lists st step ≡ step_with m (next_record lists st step) st step
+unfolding step_with take_step took
+step_after-with m lists st (Take split) = refl
+step_after-with m lists st (Batch reply) = refl
+
+-- a list is shorter than 2^63
+abbrev pub HasRoom : Step → Option IngressRecord → State → Type 0
+HasRoom (Take split) (Some found) st = st.taken split < 2 ^ 63
+HasRoom (Take split) None st = Unit {0}
+HasRoom (Batch reply) found st = Unit {0}

@@ -56,8 +56,8 @@ same_filters : {A B : Type 0} (p q : B → Bool) (f : A → B) (xs : List A) →
 same_filters p q f [] e = refl
 same_filters p q f (x ∷ xs) e = λ i. cond (e x i) (f x ∷ same_filters p q f xs e i) (same_filters p q f xs e i)
 
--- what an answer emits for an address and an egress
-emitted_is : (sender : Address) (messages : List EgressMessage) (before : Address → TypeName → List TypedValue) (address : Address) (egress : TypeName) → emitted sender messages before address egress ≡ before address egress ++ arguments_at address egress (map (egress_record sender) messages)
+-- what an answer emits for an address and an egress: its records of the two, behind those that were there
+pub emitted_is : (sender : Address) (messages : List EgressMessage) (before : Address → TypeName → List TypedValue) (address : Address) (egress : TypeName) → emitted sender messages before address egress ≡ before address egress ++ arguments_at address egress (map (egress_record sender) messages)
 unfolding arguments_at
 emitted_is sender messages before address egress = by_test (same_address sender address) ∙ ap (λ xs. before address egress ++ xs) (sym (ap (map (λ (r : EgressRecord). r.argument)) (same_filters (is_between address egress) (λ r. same_address sender address && same_name r.egress egress) (egress_record sender) messages (λ message. refl)) ∙ messages_of (same_address sender address) sender egress messages))
   where

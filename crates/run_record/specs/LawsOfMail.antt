@@ -87,6 +87,7 @@ request_letters m st address moment picks request h =
   where
     within : Endpoint → List BatchInvocation → Option ToFunction
     within endpoint letters = cond (is_within endpoint picks (batch_of address (map (shipped moment) (st.cells address)) letters)) (Some (batch_of address (map (shipped moment) (st.cells address)) letters)) None
+
     by_test : (b : Bool) (letters : List BatchInvocation) → cond b (Some (batch_of address (map (shipped moment) (st.cells address)) letters)) None ≡ Some request → letters ≡ invocations_of (Some request)
     by_test true letters e = ap invocations_of e
     by_test false letters e = absurd cc

@@ -9,3 +9,4 @@ pub mod LawsOfEgress
 pub mod Deliveries
 pub mod LawsOfMail
 pub mod StateOf
+pub mod Replays

@@ -6,18 +6,15 @@ ghost use Rattle.run_record.specs.Deliveries.{EachTakenOnce, TakenInOrder, Deliv
 /// A record of a split is taken at most once.
 pub fn each_record_is_taken_once()
     ensures { EachTakenOnce }
-{
-}
+{}
 
 /// The records that are taken of a split are the first of its list, in order, as many as the state at the end says.
 pub fn records_are_taken_in_order()
     ensures { TakenInOrder }
-{
-}
+{}
 
 /// What is put into the mail of a sender and a target is, in order, what requests deliver of it and then what still waits
 /// there. So a letter is delivered at most once, and those of a pair in the order of their sending.
 pub fn letters_are_delivered_in_order()
     ensures { DeliveredInOrder }
-{
-}
+{}

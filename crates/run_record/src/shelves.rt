@@ -82,11 +82,7 @@ impl<A: Key, B: Key, T: Drop> Shelves<A, B, T> {
     }
 
     /// Adds values at the ends of their pairs' queues, in order, and answers where. An `Err` changes no queue.
-    pub fn push_all(
-        &mut self,
-        alloc: Global,
-        items: Vec<Placed<A, B, T>>,
-    ) -> Mem<Vec<Place<A, B>>>
+    pub fn push_all(&mut self, alloc: Global, items: Vec<Placed<A, B, T>>) -> Mem<Vec<Place<A, B>>>
         ensures places { IfOk result (λ places. places.items ≡ map place_of items.items) }
         ensures ok { OnOk result (HasBehind A.cmp B.cmp (list_in A.cmp B.cmp self.old.shelves) items.items (list_in A.cmp B.cmp self.new.shelves)) }
         ensures err { OnErr result ((a : A) → (b : B) → list_in A.cmp B.cmp self.new.shelves a b ≡ list_in A.cmp B.cmp self.old.shelves a b) }

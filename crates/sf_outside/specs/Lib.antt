@@ -8,3 +8,4 @@ pub mod Fixed
 pub mod Log
 pub mod Unread
 pub mod System
+pub mod Opened

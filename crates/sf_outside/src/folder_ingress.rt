@@ -1,6 +1,8 @@
 //! An ingress over the logs of a folder.
 ghost use Rattle.std.specs.Prelude.{◌≡◌, ◌<◌, ◌^◌, None, IfOk, IfSome};
-ghost use Rattle.std.specs.BTreeMap.{IsEmpty};
+ghost use Rattle.std.specs.BTreeMap.{IsEmpty, get};
+ghost use Rattle.std.specs.Ordering.{nat_cmp};
+ghost use Rattle.sf_outside.specs.Opened.{FindsIn};
 ghost use Rattle.sf_outside.specs.Told.{HasCause};
 
 use crate::split_log::SplitLog;
@@ -44,7 +46,8 @@ impl<R: Files> FolderIngress<R> {
 
     fn found(&mut self, split: u32, offset: u64) -> Result<Option<IngressRecord>, Fault>
         requires { offset < 2 ^ 63 }
-        ensures { self.new.failed ≡ self.old.failed }
+        ensures faults { self.new.failed ≡ self.old.failed }
+        ensures reads { IfOk result (λ found. FindsIn R.File.remaining (get nat_cmp self.old.logs split) offset found) }
     {
         if !self.logs.contains_key(&split) {
             let Some(file) = self.opened(split)? else {
@@ -83,6 +86,8 @@ impl<R: Files> Ingress for FolderIngress<R> {
     fn read(&mut self, split: u32, offset: u64) -> Result<Option<IngressRecord>, Fault>
         ensures short { IfOk result (λ found. IfSome found (λ _. offset < 2 ^ 63)) }
         ensures cause { HasCause self.old.failed self.new.failed result }
+        // Where the bytes of the split's log are known.
+        ensures reads { IfOk result (λ found. FindsIn R.File.remaining (get nat_cmp self.old.logs split) offset found) }
     {
         if offset >= 1 << 63 {
             return Ok(None);

@@ -7,7 +7,9 @@ mod letter;
 mod messages;
 mod name;
 mod parse;
+mod reading;
 mod record;
+mod stored;
 mod value;
 
 pub use address::Address;
@@ -16,4 +18,8 @@ pub use letter::{Letter, Sender};
 pub use name::TypeName;
 pub use parse::{NameFault, parse_name, parse_type_name};
 pub use record::{Delay, EgressRecord};
+pub use stored::{
+    decode_address, decode_delay, decode_egress, decode_letter, decode_sender, decode_value,
+    encode_address, encode_delay, encode_egress, encode_letter, encode_sender, encode_value,
+};
 pub use value::TypedValue;

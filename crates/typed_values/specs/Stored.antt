@@ -1,0 +1,100 @@
+-- Senders, letters, delayed letters and egress records as messages. While one is read, what it needs may still be absent.
+use Rattle.std.specs.Prelude.{ℕ, List, [], ◌∷◌, Option, Some, None, option_and_then}
+use Rattle.proto_wire.specs.Message.{Row, texts, numbers, messages, members, choices}
+use Rattle.typed_values.specs.declared.address.Address.{Address}
+use Rattle.typed_values.specs.declared.value.TypedValue.{TypedValue}
+use Rattle.typed_values.specs.declared.letter.Sender.{Sender}
+use Rattle.typed_values.specs.declared.letter.Sender.TheVariants.{Split, Function}
+use Rattle.typed_values.specs.declared.letter.Letter.{Letter}
+use Rattle.typed_values.specs.declared.record.Delay.{Delay}
+use Rattle.typed_values.specs.declared.record.EgressRecord.{EgressRecord}
+use Rattle.typed_values.specs.declared.reading.SenderRead.{SenderRead}
+use Rattle.typed_values.specs.declared.reading.LetterRead.{LetterRead}
+use Rattle.typed_values.specs.declared.reading.DelayRead.{DelayRead}
+use Rattle.typed_values.specs.declared.reading.EgressRead.{EgressRead}
+use Rattle.typed_values.specs.Tables.{empty_address, address_rows, empty_value, value_rows}
+
+-- ---- senders
+
+-- the member that stands, where it is this one
+unfoldable pub split_of : Option Sender → Option ℕ
+split_of None = None
+split_of (Some (Split split)) = Some split
+split_of (Some (Function address)) = None
+
+unfoldable pub function_of : Option Sender → Option Address
+function_of None = None
+function_of (Some (Split split)) = None
+function_of (Some (Function address)) = Some address
+
+unfoldable pub empty_sender : SenderRead
+empty_sender = record { member = None }
+
+unfoldable pub sender_rows : List (Row SenderRead)
+sender_rows =
+    choices 1 (λ it. split_of it.member) (λ it split. record { member = Some (Split split) })
+    ∷ members empty_address address_rows 2 (λ it. function_of it.member) (λ it address. record { member = Some (Function address) })
+    ∷ []
+
+-- ---- letters
+
+unfoldable pub empty_letter : LetterRead
+empty_letter = record { sender = None; target = None; argument = None }
+
+unfoldable pub letter_rows : List (Row LetterRead)
+letter_rows =
+    messages empty_sender sender_rows 1 (λ it. it.sender) (λ it new. record it { sender = new })
+    ∷ messages empty_address address_rows 2 (λ it. it.target) (λ it new. record it { target = new })
+    ∷ messages empty_value value_rows 3 (λ it. it.argument) (λ it new. record it { argument = new })
+    ∷ []
+
+abbrev pub letter_read : Letter → LetterRead
+letter_read letter = record { sender = Some (record { member = Some letter.sender }); target = Some letter.target; argument = Some letter.argument }
+
+-- a letter needs a sender with its member, a target and an argument
+unfoldable pub letter_of : LetterRead → Option Letter
+letter_of it =
+    option_and_then (λ (read : SenderRead). option_and_then (λ (sender : Sender). option_and_then (λ (target : Address). option_and_then (λ (argument : TypedValue). Some (record { sender = sender; target = target; argument = argument })) it.argument) it.target) read.member) it.sender
+
+-- ---- delayed letters
+
+unfoldable pub empty_delay : DelayRead
+empty_delay = record { sender = None; due = 0; target = None; token = []; argument = None }
+
+unfoldable pub delay_rows : List (Row DelayRead)
+delay_rows =
+    messages empty_address address_rows 1 (λ it. it.sender) (λ it new. record it { sender = new })
+    ∷ numbers 2 (λ it. it.due) (λ it new. record it { due = new })
+    ∷ messages empty_address address_rows 3 (λ it. it.target) (λ it new. record it { target = new })
+    ∷ texts 4 (λ it. it.token) (λ it new. record it { token = new })
+    ∷ messages empty_value value_rows 5 (λ it. it.argument) (λ it new. record it { argument = new })
+    ∷ []
+
+abbrev pub delay_read : Delay → DelayRead
+delay_read delay = record { sender = Some delay.sender; due = delay.due; target = Some delay.target; token = delay.token; argument = Some delay.argument }
+
+-- a delayed letter needs a sender, a target and an argument
+unfoldable pub delay_of : DelayRead → Option Delay
+delay_of it =
+    option_and_then (λ (sender : Address). option_and_then (λ (target : Address). option_and_then (λ (argument : TypedValue). Some (record { sender = sender; due = it.due; target = target; token = it.token; argument = argument })) it.argument) it.target) it.sender
+
+-- ---- egress records
+
+unfoldable pub empty_egress : EgressRead
+empty_egress = record { sender = None; namespace = []; name = []; argument = None }
+
+unfoldable pub egress_rows : List (Row EgressRead)
+egress_rows =
+    messages empty_address address_rows 1 (λ it. it.sender) (λ it new. record it { sender = new })
+    ∷ texts 2 (λ it. it.namespace) (λ it new. record it { namespace = new })
+    ∷ texts 3 (λ it. it.name) (λ it new. record it { name = new })
+    ∷ messages empty_value value_rows 4 (λ it. it.argument) (λ it new. record it { argument = new })
+    ∷ []
+
+abbrev pub egress_read : EgressRecord → EgressRead
+egress_read egress = record { sender = Some egress.sender; namespace = egress.egress.namespace; name = egress.egress.name; argument = Some egress.argument }
+
+-- an egress record needs a sender and an argument
+unfoldable pub egress_of : EgressRead → Option EgressRecord
+egress_of it =
+    option_and_then (λ (sender : Address). option_and_then (λ (argument : TypedValue). Some (record { sender = sender; egress = record { namespace = it.namespace; name = it.name }; argument = argument })) it.argument) it.sender
