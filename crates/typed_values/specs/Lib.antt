@@ -4,3 +4,5 @@ pub mod Again
 pub mod Stored
 pub mod Spelling
 pub mod StoredAgain
+pub mod Wrappers
+pub mod WrappersAgain
