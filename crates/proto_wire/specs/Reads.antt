@@ -27,3 +27,9 @@ Changes (Err e) new read = Fails e read
 -- the bytes that stood still stand in front
 abbrev pub Keeps : List ℕ → List ℕ → Type 0
 Keeps old new = take (length old) new ≡ old
+
+-- the call did not ask for memory that it could not get
+abbrev pub IsWire : {X : Type 0} → Result X DecodeFault → Type 0
+IsWire (Ok x) = Unit {0}
+IsWire (Err OutOfMemory) = ⊥
+IsWire (Err (Wire e)) = Unit {0}

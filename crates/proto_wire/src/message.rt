@@ -1,6 +1,6 @@
 //! Messages: how their records are read, one loop for all.
-ghost use Rattle.std.specs.Prelude.{◌≡◌, ◌++◌, ◌∷◌, [], List, Some, None, Bool, length, ◌%◌, ◌^◌, IfOk, OnOk, true};
-ghost use Rattle.proto_wire.specs.Reads.{Gives, Changes};
+ghost use Rattle.std.specs.Prelude.{◌≡◌, ◌++◌, ◌∷◌, [], List, Some, None, Bool, length, ◌%◌, ◌^◌, IfOk, OnOk, true, false};
+ghost use Rattle.proto_wire.specs.Reads.{Gives, Changes, IsWire};
 ghost use Rattle.proto_wire.specs.Seen.{item_of};
 ghost use Rattle.proto_wire.specs.Message.{Row, accepted, value_in, joined, belongs, text_of, enum_of, long_of, bool_of, short_of, spelling, fit, capped};
 
@@ -16,6 +16,9 @@ pub trait Message: Drop {
     /// The message that no bytes spell.
     ghost empty: { Self };
 
+    /// Whether taking a record in may ask for memory.
+    ghost takes_memory: { Bool } = { true };
+
     /// The message with every field at its default. Takes no memory.
     fn blank(alloc: Global) -> Self
         ensures { result ≡ empty };
@@ -23,7 +26,8 @@ pub trait Message: Drop {
     /// Takes a record in: by its field, or passed over where the message has no field of its number and wire type. After an `Err` the message is of no
     /// further use.
     fn accept(&mut self, alloc: Global, item: &Record<'_>) -> Result<(), DecodeFault>
-        ensures { Changes result self.new (accepted rows self.old (item_of item.now)) };
+        ensures changes { Changes result self.new (accepted rows self.old (item_of item.now)) }
+        ensures memory { takes_memory ≡ false → IsWire result };
 
     /// The length of the canonical spelling, or `u64::MAX` where it is greater. Takes no memory.
     fn size(&self) -> u64
@@ -43,7 +47,8 @@ pub fn merge<M: Message>(
     end: usize,
     bytes: &[u8],
 ) -> Result<(), DecodeFault>
-    ensures { Changes result message.new (value_in M.rows message.old end bytes.now) }
+    ensures changes { Changes result message.new (value_in M.rows message.old end bytes.now) }
+    ensures memory { M.takes_memory ≡ false → IsWire result }
 {
     let mut rest = bytes;
     while !rest.is_empty() {

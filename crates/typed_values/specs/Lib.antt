@@ -5,3 +5,5 @@ pub mod Again
 pub mod Stored
 pub mod Spelling
 pub mod StoredAgain
+pub mod Wrappers
+pub mod WrappersAgain

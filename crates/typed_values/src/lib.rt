@@ -11,6 +11,7 @@ mod reading;
 mod record;
 mod stored;
 mod value;
+mod wrapped;
 
 pub use address::Address;
 pub use cell::{CellSpec, Expiry};
@@ -23,3 +24,6 @@ pub use stored::{
     encode_address, encode_delay, encode_egress, encode_letter, encode_sender, encode_value,
 };
 pub use value::TypedValue;
+pub use wrapped::{
+    bool_of, bool_value, int_of, int_value, long_of, long_value, text_of, text_value,
+};

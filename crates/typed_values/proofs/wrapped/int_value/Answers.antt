@@ -1,0 +1,10 @@
+use Rattle.std.proofs.Common.{◌∙◌, ap, Some, ℤ}
+use Rattle.std.specs.Int.{w32, cast_signed, cast_unsigned}
+use Rattle.std.proofs.lemmas.Int.{to_z-of_z}
+use Rattle.typed_values.proofs.Written.{int-written}
+use Rattle.typed_values.proofs.wrapped.int_value.Goals as goal
+
+pub returns-clause-again : goal.returns-clause-again
+returns-clause-again c =
+    int-written c.in_ok-value.value (cast_signed w32 (cast_unsigned w32 c.args.number)) c.in_ok-value.ensures.value c.in_ok-value.ensures.fits c.in_ok-value.ensures.short
+    ∙ ap (λ (z : ℤ). Some z) (to_z-of_z w32 c.args.number c.ranges.number)
