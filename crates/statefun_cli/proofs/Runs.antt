@@ -1,5 +1,5 @@
 -- Turns one after the other: one more turn, and what stays as the outside goes on.
-use Rattle.std.proofs.Common.{◌≡◌, ℕ, suc, ◌+◌, ◌≤◌, Bool, true, false, cond, eqb, List, [], ◌∷◌, ◌++◌, length, map, Option, Some, None, refl, sym, ap, subst, ◌∙◌, arith, append_assoc, length-append}
+use Rattle.std.proofs.Common.{◌≡◌, ℕ, suc, ◌+◌, ◌<◌, ◌≤◌, Bool, true, false, cond, eqb, List, [], ◌∷◌, ◌++◌, length, map, Option, Some, None, refl, sym, ap, subst, ◌∙◌, arith, append_assoc, length-append}
 use Rattle.std.specs.Prelude.{slice_get, IfSome, Contains}
 use Rattle.std.specs.Option.{option_to_list}
 use Rattle.std.proofs.lemmas.List.{append-nil}
@@ -26,8 +26,12 @@ use Rattle.statefun_cli.specs.declared.end.PlainEnd.{PlainEnd}
 use Rattle.statefun_cli.specs.declared.end.PlainEnd.TheVariants.{Done, Usage, TurnsSpent, EndpointFailed, IngressFault, LinkFault, SinkFault, OutOfMemory}
 use Rattle.statefun_cli.specs.Turns.{Heard, Work, Status, Going, Cut, Ended, Turned, Fate, Open, TooLate, Told, call_in, own_outcome, fate_of, work_read, status_at, judged_turn, fated_turn, asked_turn, start_of, turned, behind, go_on, turns_from, turns_of, no_work, records_heard}
 use Rattle.statefun_cli.specs.Polling.{IsOwnAnswer}
-use Rattle.statefun_cli.specs.Progress.{IsFront}
-use Rattle.statefun_cli.specs.Running.{IsProper, AreProper}
+use Rattle.sf_outside.specs.declared.fault.Fault.{Fault}
+use Rattle.sf_outside.specs.declared.fault.Fault.TheVariants as faults
+use Rattle.statefun_cli.specs.Progress.{IsFront, IsEndOf, IsTurnEnd, IsTextOf, IsTurnText}
+use Rattle.run_record.specs.Egress.{egress_of, egress_text}
+use Rattle.statefun_cli.specs.Making.{IsTurnMade}
+use Rattle.statefun_cli.specs.Running.{IsProper, AreProper, IsRun, IsRunEnd, is_done, ingress_end}
 
 -- ---- one more turn
 
@@ -180,3 +184,172 @@ AreProper-later patience turn journal after events exchanges later (first ∷ ot
 pub AreProper-push : (patience turn number : ℕ) (journal : Option (List LinkEvent)) (exchanges : List Exchange) (heard : List Heard) (last : Heard) → number ≡ turn + length heard → AreProper patience turn journal exchanges heard → IsProper patience number journal exchanges last → AreProper patience turn journal exchanges (heard ++ last ∷ [])
 AreProper-push patience turn number journal exchanges [] last n h p = let here : number ≡ turn = omega (arith, n) in (subst (λ (k : ℕ). IsProper patience k journal exchanges last) here p, tt)
 AreProper-push patience turn number journal exchanges (first ∷ heard) last n h p = (h.0, AreProper-push patience (turn + 1) number journal exchanges heard last (omega (arith, n)) h.1 p)
+
+-- ---- a run so far
+
+-- what was heard in the turns so far, after each of which the run went on
+pub record RunsSo (m : Module) (patience made : ℕ) (lists : Option Lists) (before after : Option (List LinkEvent)) (exchanges : List Exchange) (work : Work) : Type 0 where
+  pub heard : List Heard
+  pub counted : length heard ≡ made
+  pub going : (turns_of m patience heard).status ≡ Going
+  pub work_is : work ≡ (turns_of m patience heard).work
+  pub proper : AreProper patience 1 after exchanges heard
+  pub journal : after ≡ more before (turns_of m patience heard).events
+  pub reads : IfSome lists (λ told. IsFront (records_heard heard) (split_of told 0))
+  pub taken : work.taken ≡ length (records_heard heard)
+
+no_reads : (lists : Option Lists) → IfSome lists (λ told. IsFront [] (split_of told 0))
+no_reads None = tt
+no_reads (Some told) = (split_of told 0, refl)
+
+pub RunsSo-none : (m : Module) (patience : ℕ) (lists : Option Lists) (journal : Option (List LinkEvent)) (exchanges : List Exchange) (work : Work) → work ≡ no_work → RunsSo m patience 0 lists journal journal exchanges work
+unfolding turns_of turns_from
+RunsSo-none m patience lists journal exchanges work e = record {
+  heard = [];
+  counted = refl;
+  going = refl;
+  work_is = e;
+  proper = tt;
+  journal = sym (more-nil journal);
+  reads = no_reads lists;
+  taken = ap (λ (w : Work). w.taken) e;
+}
+
+-- one more turn of a run
+pub record OneMore (m : Module) (patience made : ℕ) (lists : Option Lists) (before after : Option (List LinkEvent)) (exchanges : List Exchange) (read : Option IngressRecord) (work new : Work) (end : Option PlainEnd) : Type 0 where
+  pub whole : List Heard
+  pub last : Heard
+  pub counted : length whole ≡ made
+  pub going : (turns_of m patience whole).status ≡ Going
+  pub turns_is : turns_of m patience (whole ++ last ∷ []) ≡ behind (turns_of m patience whole).events (turned m patience (made + 1) last work)
+  pub end_is : IsTurnEnd (turned m patience (made + 1) last work) new end
+  pub proper : AreProper patience 1 after exchanges (whole ++ last ∷ [])
+  pub journal : after ≡ more before (turns_of m patience (whole ++ last ∷ [])).events
+  pub reads : IfSome lists (λ told. IsFront (records_heard (whole ++ last ∷ [])) (split_of told 0))
+  pub reads_all : read ≡ None → IfSome lists (λ told. split_of told 0 ≡ records_heard (whole ++ last ∷ []))
+  pub read_is : last.read ≡ read
+  pub taken : work.taken + length (option_to_list read) ≡ length (records_heard (whole ++ last ∷ []))
+
+one_read : (last : Heard) (read : Option IngressRecord) → last.read ≡ read → records_heard (last ∷ []) ≡ option_to_list read
+one_read last read e = append-nil (option_to_list last.read) ∙ ap option_to_list e
+
+pub one_more : (m : Module) (patience made : ℕ) (lists lists' : Option Lists) (before middle after : Option (List LinkEvent)) (exchanges exchanges' : List Exchange) (read : Option IngressRecord) (offset : ℕ) (work new : Work) (end : Option PlainEnd)
+    → RunsSo m patience made lists before middle exchanges work → Grows lists lists' → Reads lists' 0 offset read → offset ≡ work.taken → Extends exchanges exchanges'
+    → IsTurnMade m patience (made + 1) read work new middle after exchanges' end → OneMore m patience made lists' before after exchanges' read work new end
+unfolding turns_of
+one_more m patience made lists lists' before middle after exchanges exchanges' read offset work new end so grows reads at extends turn =
+    let last = turn.heard in
+    let t = turned m patience (made + 1) last work in
+    let turns : turns_from m patience 1 (so.heard ++ last ∷ []) no_work ≡ behind (turns_from m patience 1 so.heard no_work).events t =
+      turns_from-push m patience 1 (made + 1) so.heard last no_work (omega (arith, so.counted)) so.going ∙ ap (λ (w : Work). behind (turns_from m patience 1 so.heard no_work).events (turned m patience (made + 1) last w)) (sym so.work_is) in
+    let records : records_heard (so.heard ++ last ∷ []) ≡ records_heard so.heard ++ option_to_list read = records_heard-append so.heard (last ∷ []) ∙ ap (λ (l : List IngressRecord). records_heard so.heard ++ l) (one_read last read turn.is_heard.read_is) in
+    let here : offset ≡ length (records_heard so.heard) = at ∙ so.taken in
+    record {
+      whole = so.heard;
+      last = last;
+      counted = so.counted;
+      going = so.going;
+      turns_is = turns;
+      end_is = turn.end_is;
+      proper = AreProper-push patience 1 (made + 1) after exchanges' so.heard last (omega (arith, so.counted))
+        (AreProper-later patience 1 middle after t.events exchanges exchanges' so.heard turn.is_heard.journal extends so.proper)
+        (record { its = turn.is_heard.its; answered = turn.is_heard.answered });
+      journal = turn.is_heard.journal ∙ ap (λ (j : Option (List LinkEvent)). more j t.events) so.journal ∙ more-more before (turns_from m patience 1 so.heard no_work).events t.events ∙ sym (ap (λ (x : Turned). more before x.events) turns);
+      reads = subst (λ (l : List IngressRecord). IfSome lists' (λ told. IsFront l (split_of told 0))) (sym records) (reads_more lists lists' (records_heard so.heard) read offset here so.reads grows reads);
+      reads_all = λ none. subst (λ (l : List IngressRecord). IfSome lists' (λ told. split_of told 0 ≡ l)) (sym (records ∙ ap (λ (r : Option IngressRecord). records_heard so.heard ++ option_to_list r) none ∙ append-nil (records_heard so.heard)))
+        (reads_all lists' (records_heard so.heard) read offset here none (reads_grown lists lists' (records_heard so.heard) so.reads grows) reads);
+      read_is = turn.is_heard.read_is;
+      taken = omega (arith, ap length records, length-append (records_heard so.heard) (option_to_list read), so.taken);
+    }
+
+-- the run goes on
+pub goes_on : (m : Module) (patience made : ℕ) (lists : Option Lists) (before after : Option (List LinkEvent)) (exchanges : List Exchange) (read : Option IngressRecord) (work new : Work) → OneMore m patience made lists before after exchanges read work new None → RunsSo m patience (made + 1) lists before after exchanges new
+goes_on m patience made lists before after exchanges read work new o = record {
+  heard = o.whole ++ o.last ∷ [];
+  counted = omega (arith, length-append o.whole (o.last ∷ []), o.counted);
+  going = ap (λ (t : Turned). t.status) o.turns_is ∙ o.end_is.0;
+  work_is = o.end_is.1 ∙ sym (ap (λ (t : Turned). t.work) o.turns_is);
+  proper = o.proper;
+  journal = o.journal;
+  reads = o.reads;
+  taken = ap (λ (w : Work). w.taken) o.end_is.1 ∙ turned-taken m patience (made + 1) o.last work ∙ ap (λ (r : Option IngressRecord). work.taken + length (option_to_list r)) o.read_is ∙ o.taken;
+}
+
+-- a front of the same record
+same_front : (entries : List Entry) (t u : Turned) → t ≡ u → IsFront entries u.work.entries → IsFront entries t.work.entries
+same_front entries t u e f = (f.0, ap (λ (x : Turned). x.work.entries) e ∙ f.1)
+
+end_behind : (events : List LinkEvent) (t : Turned) (turns made : ℕ) (entries : List Entry) (end : PlainEnd) → IsEndOf t entries end → IsRunEnd (behind events t) turns made entries end
+end_behind events t turns made entries (Done taken) e = e
+end_behind events t turns made entries (Usage word) e = absurd e
+end_behind events t turns made entries (TurnsSpent taken) e = absurd e
+end_behind events t turns made entries (EndpointFailed address reasons) e = e
+end_behind events t turns made entries IngressFault e = e
+end_behind events t turns made entries LinkFault e = e
+end_behind events t turns made entries SinkFault e = e
+end_behind events t turns made entries OutOfMemory e = e
+
+-- an end that is Done came from a read that found nothing
+done_read : (m : Module) (patience turn : ℕ) (heard : Heard) (work : Work) (entries : List Entry) (end : PlainEnd) → IsEndOf (turned m patience turn heard work) entries end → is_done end ≡ true → heard.read ≡ None
+done_read m patience turn heard work entries (Done taken) e d = turned-done m patience turn heard work taken e.0
+done_read m patience turn heard work entries (Usage word) e d = absurd cc
+done_read m patience turn heard work entries (TurnsSpent taken) e d = absurd cc
+done_read m patience turn heard work entries (EndpointFailed address reasons) e d = absurd cc
+done_read m patience turn heard work entries IngressFault e d = absurd cc
+done_read m patience turn heard work entries LinkFault e d = absurd cc
+done_read m patience turn heard work entries SinkFault e d = absurd cc
+done_read m patience turn heard work entries OutOfMemory e d = absurd cc
+
+-- the run ended in this turn
+pub ends_in : (m : Module) (patience turns made : ℕ) (lists : Option Lists) (before after : Option (List LinkEvent)) (exchanges : List Exchange) (read : Option IngressRecord) (work new : Work) (end : PlainEnd) → made < turns → OneMore m patience made lists before after exchanges read work new (Some end) → IsRun m patience turns lists before after exchanges new.entries end
+ends_in m patience turns made lists before after exchanges read work new end few o = record {
+  whole = o.whole;
+  last = Some o.last;
+  going = o.going;
+  few = omega (arith, length-append o.whole (o.last ∷ []), o.counted);
+  proper = o.proper;
+  journal = o.journal;
+  reads = o.reads;
+  reads_all = λ d. o.reads_all (sym o.read_is ∙ done_read m patience (made + 1) o.last work new.entries end o.end_is d);
+  end_is = subst (λ (t : Turned). IsRunEnd t turns (length (o.whole ++ o.last ∷ [])) new.entries end) (sym o.turns_is)
+    (end_behind (turns_of m patience o.whole).events (turned m patience (made + 1) o.last work) turns (length (o.whole ++ o.last ∷ [])) new.entries end o.end_is);
+}
+
+-- the run ended between two turns
+ends_at : (m : Module) (patience turns made : ℕ) (lists lists' : Option Lists) (before after : Option (List LinkEvent)) (exchanges : List Exchange) (work : Work) (end : PlainEnd) → made ≤ turns → is_done end ≡ false → RunsSo m patience made lists before after exchanges work → Grows lists lists'
+    → ((t : Turned) → t.status ≡ Going → work ≡ t.work → IsRunEnd t turns made work.entries end) → IsRun m patience turns lists' before after exchanges work.entries end
+ends_at m patience turns made lists lists' before after exchanges work end few d so grows is =
+    let all : so.heard ++ [] ≡ so.heard = append-nil so.heard in
+    record {
+      whole = so.heard;
+      last = None;
+      going = so.going;
+      few = omega (arith, ap length all, so.counted);
+      proper = subst (AreProper patience 1 after exchanges) (sym all) so.proper;
+      journal = so.journal ∙ ap (λ (h : List Heard). more before (turns_of m patience h).events) (sym all);
+      reads = subst (λ (h : List Heard). IfSome lists' (λ told. IsFront (records_heard h) (split_of told 0))) (sym all) (reads_grown lists lists' (records_heard so.heard) so.reads grows);
+      reads_all = λ e. absurd (let h : true ≡ false = sym e ∙ d in cc);
+      end_is = subst (λ (h : List Heard). IsRunEnd (turns_of m patience h) turns (length h) work.entries end) (sym all) (subst (λ (n : ℕ). IsRunEnd (turns_of m patience so.heard) turns n work.entries end) (sym so.counted) (is (turns_of m patience so.heard) so.going so.work_is));
+    }
+
+-- at a fault of the ingress
+pub ends_unread : (m : Module) (patience turns made : ℕ) (lists lists' : Option Lists) (before after : Option (List LinkEvent)) (exchanges : List Exchange) (work : Work) (fault : Fault) → made ≤ turns → RunsSo m patience made lists before after exchanges work → Grows lists lists' → IsRun m patience turns lists' before after exchanges work.entries (ingress_end fault)
+ends_unread m patience turns made lists lists' before after exchanges work faults.Failed few so grows = ends_at m patience turns made lists lists' before after exchanges work IngressFault few refl so grows (λ t g w. ([], ap (λ (x : Work). x.entries) (sym w) ∙ sym (append-nil work.entries)))
+ends_unread m patience turns made lists lists' before after exchanges work faults.OutOfMemory few so grows = ends_at m patience turns made lists lists' before after exchanges work OutOfMemory few refl so grows (λ t g w. ([], ap (λ (x : Work). x.entries) (sym w) ∙ sym (append-nil work.entries)))
+
+grown_itself : (lists : Option Lists) → Grows lists lists
+grown_itself None = tt
+grown_itself (Some told) = λ split. ([], sym (append-nil (split_of told split)))
+
+-- all turns were made
+pub ends_spent : (m : Module) (patience turns made : ℕ) (lists : Option Lists) (before after : Option (List LinkEvent)) (exchanges : List Exchange) (work : Work) → made ≡ turns → RunsSo m patience made lists before after exchanges work → IsRun m patience turns lists before after exchanges work.entries (TurnsSpent work.taken)
+ends_spent m patience turns made lists before after exchanges work e so =
+    ends_at m patience turns made lists lists before after exchanges work (TurnsSpent work.taken) (omega (arith, e)) refl so (grown_itself lists) (λ t g w. (g, e, ap (λ (x : Work). x.taken) w, ap (λ (x : Work). x.entries) w))
+
+-- a run that has done nothing has no text
+pub text_none : (m : Module) (text : List ℕ) (work : Work) → text ≡ [] → work ≡ no_work → IsTextOf m text work.entries
+unfolding egress_of egress_text
+text_none m text work e w = e ∙ ap (λ (x : Work). egress_text (egress_of m x.entries)) (sym w)
+
+pub text_kept : (m : Module) (text : List ℕ) (entries : List Entry) → IsTurnText m text entries None → IsTextOf m text entries
+text_kept m text entries e = e
