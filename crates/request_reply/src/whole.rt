@@ -12,8 +12,7 @@ use crate::{
     ToFunction,
 };
 use proto_wire::{
-    Bytes, DecodeFault, Mem, Message, Record, joined, member_size, merge,
-    no_member, with_member,
+    Bytes, DecodeFault, Mem, Message, Record, joined, member_size, merge, no_member, with_member,
 };
 use std::alloc::Global;
 

@@ -8,7 +8,7 @@ use std::rt::Env;
 const FIRST_SIZE: usize = 256;
 
 /// The program's arguments but for its own name. One that is not UTF-8 is given as an empty word.
-pub fn words<E: Env>(env: &E, alloc: Global) -> Mem<Vec<String>> {
+pub(crate) fn words<E: Env>(env: &E, alloc: Global) -> Mem<Vec<String>> {
     let mut words = Vec::new(alloc);
     for place in 1..usize::MAX {
         match word(env, alloc, place)? {

@@ -23,22 +23,22 @@ nothing_written written bytes = (0, omega arith, sym (more-nil written))
 not_begun_run : (m : Module) (patience turns : ℕ) (lists : Option Lists) (journal : Option (List LinkEvent)) (exchanges : List Exchange) → IsRun m patience turns lists journal journal exchanges [] OutOfMemory
 not_begun_run m patience turns lists journal exchanges =
     ends_at m patience turns 0 lists lists journal journal exchanges no_work OutOfMemory (omega arith) refl (RunsSo-none m patience lists journal exchanges no_work refl) (grown_itself lists)
-      (λ t g w. ([], ap (λ (x : Work). x.entries) (sym w)))
+    (λ t g w. ([], ap (λ (x : Work). x.entries) (sym w)))
 
 -- nothing was done
 pub not_begun : (m : Module) (patience turns : ℕ) (lists : Option Lists) (journal : Option (List LinkEvent)) (exchanges : List Exchange) (written : Option (List ℕ)) (counts : Counts) (entries : List Entry) (end : PlainEnd) → entries ≡ [] → end ≡ OutOfMemory
     → IsPlainRun m patience turns lists journal journal exchanges written written counts counts entries end
 not_begun m patience turns lists journal exchanges written counts entries end none e =
     subst (λ (x : PlainEnd). IsPlainRun m patience turns lists journal journal exchanges written written counts counts entries x) (sym e)
-      (subst (λ (x : List Entry). IsPlainRun m patience turns lists journal journal exchanges written written counts counts x OutOfMemory) (sym none)
-        (record {
-          told = OutOfMemory;
-          run = not_begun_run m patience turns lists journal exchanges;
-          tells = nothing_written written (egress_text (egress_of m []) ++ end_line OutOfMemory turns);
-          ingress_cause = refl;
-          link_cause = refl;
-          lost = λ h. absurd cc;
-        }))
+    (subst (λ (x : List Entry). IsPlainRun m patience turns lists journal journal exchanges written written counts counts x OutOfMemory) (sym none)
+    (record {
+      told = OutOfMemory;
+      run = not_begun_run m patience turns lists journal exchanges;
+      tells = nothing_written written (egress_text (egress_of m []) ++ end_line OutOfMemory turns);
+      ingress_cause = refl;
+      link_cause = refl;
+      lost = λ h. absurd cc;
+    }))
 
 -- what was told of a run is its record's egress text and the line
 same_text : (before after : Option (List ℕ)) (text text' : List ℕ) (turns : ℕ) (told end : PlainEnd) → text ≡ text' → IsTold before after text turns told end → IsTold before after text' turns told end
@@ -56,4 +56,4 @@ told_text m before after text entries turns SinkFault end t q h = same_text befo
 told_text m before after text entries turns OutOfMemory end t q h =
     let quiet = q refl in
     subst (λ (x : PlainEnd). IsTold before after (egress_text (egress_of m entries)) turns OutOfMemory x) (sym quiet.0)
-      (0, omega arith, quiet.1 ∙ sym (more-nil before))
+    (0, omega arith, quiet.1 ∙ sym (more-nil before))

@@ -114,8 +114,8 @@ module _ (m : Module) (patience turn : ℕ) (read : Option IngressRecord) (old n
   turn_idle end e none same status = record {
     heard = quiet;
     is_heard = is_quiet e;
-    end_is = subst (λ (t : Turned). IsTurnEnd t new end) (sym (ap (asked_turn m patience turn (record { read = read; started = false; polls = [] }) (work_read m turn read old)) none) )
-      (subst (λ (w : Work). IsTurnEnd (record { work = w; events = []; status = status_at read w }) new end) same (idle_end read new [] end status));
+    end_is = subst (λ (t : Turned). IsTurnEnd t new end) (sym (ap (asked_turn m patience turn (record { read = read; started = false; polls = [] }) (work_read m turn read old)) none))
+        (subst (λ (w : Work). IsTurnEnd (record { work = w; events = []; status = status_at read w }) new end) same (idle_end read new [] end status));
   }
 
   -- the letter that has waited longest was asked for

@@ -62,7 +62,7 @@ turns_from-push m patience turn number [] last work n g =
     go_on-nothing (turned m patience turn last work).status (turned m patience turn last work) refl ∙ ap (λ (k : ℕ). turned m patience k last work) (sym here)
 turns_from-push m patience turn number (heard ∷ later) last work n g =
     go_on-push (turned m patience turn heard work).status (turned m patience turn heard work) (turns_from m patience (turn + 1) later) (turns_from m patience (turn + 1) (later ++ last ∷ [])) (turned m patience number last) refl g
-      (turns_from-push m patience (turn + 1) number later last (turned m patience turn heard work).work (omega (arith, n)))
+    (turns_from-push m patience (turn + 1) number later last (turned m patience turn heard work).work (omega (arith, n)))
 
 -- ---- what a turn takes
 
@@ -179,7 +179,8 @@ pub AreProper-later : (patience turn : ℕ) (journal after : Option (List LinkEv
 AreProper-later patience turn journal after events exchanges later [] e x h = tt
 AreProper-later patience turn journal after events exchanges later (first ∷ others) e x h = (
   record { its = h.0.its; answered = λ what own. own_answer-later journal after events exchanges later (call_in turn) what e x (h.0.answered what own) },
-  AreProper-later patience (turn + 1) journal after events exchanges later others e x h.1)
+  AreProper-later patience (turn + 1) journal after events exchanges later others e x h.1,
+)
 
 pub AreProper-push : (patience turn number : ℕ) (journal : Option (List LinkEvent)) (exchanges : List Exchange) (heard : List Heard) (last : Heard) → number ≡ turn + length heard → AreProper patience turn journal exchanges heard → IsProper patience number journal exchanges last → AreProper patience turn journal exchanges (heard ++ last ∷ [])
 AreProper-push patience turn number journal exchanges [] last n h p = let here : number ≡ turn = omega (arith, n) in (subst (λ (k : ℕ). IsProper patience k journal exchanges last) here p, tt)
@@ -241,7 +242,7 @@ one_more m patience made lists lists' before middle after exchanges exchanges' r
     let last = turn.heard in
     let t = turned m patience (made + 1) last work in
     let turns : turns_from m patience 1 (so.heard ++ last ∷ []) no_work ≡ behind (turns_from m patience 1 so.heard no_work).events t =
-      turns_from-push m patience 1 (made + 1) so.heard last no_work (omega (arith, so.counted)) so.going ∙ ap (λ (w : Work). behind (turns_from m patience 1 so.heard no_work).events (turned m patience (made + 1) last w)) (sym so.work_is) in
+    turns_from-push m patience 1 (made + 1) so.heard last no_work (omega (arith, so.counted)) so.going ∙ ap (λ (w : Work). behind (turns_from m patience 1 so.heard no_work).events (turned m patience (made + 1) last w)) (sym so.work_is) in
     let records : records_heard (so.heard ++ last ∷ []) ≡ records_heard so.heard ++ option_to_list read = records_heard-append so.heard (last ∷ []) ∙ ap (λ (l : List IngressRecord). records_heard so.heard ++ l) (one_read last read turn.is_heard.read_is) in
     let here : offset ≡ length (records_heard so.heard) = at ∙ so.taken in
     record {
@@ -252,12 +253,12 @@ one_more m patience made lists lists' before middle after exchanges exchanges' r
       turns_is = turns;
       end_is = turn.end_is;
       proper = AreProper-push patience 1 (made + 1) after exchanges' so.heard last (omega (arith, so.counted))
-        (AreProper-later patience 1 middle after t.events exchanges exchanges' so.heard turn.is_heard.journal extends so.proper)
-        (record { its = turn.is_heard.its; answered = turn.is_heard.answered });
+          (AreProper-later patience 1 middle after t.events exchanges exchanges' so.heard turn.is_heard.journal extends so.proper)
+          (record { its = turn.is_heard.its; answered = turn.is_heard.answered });
       journal = turn.is_heard.journal ∙ ap (λ (j : Option (List LinkEvent)). more j t.events) so.journal ∙ more-more before (turns_from m patience 1 so.heard no_work).events t.events ∙ sym (ap (λ (x : Turned). more before x.events) turns);
       reads = subst (λ (l : List IngressRecord). IfSome lists' (λ told. IsFront l (split_of told 0))) (sym records) (reads_more lists lists' (records_heard so.heard) read offset here so.reads grows reads);
       reads_all = λ none. subst (λ (l : List IngressRecord). IfSome lists' (λ told. split_of told 0 ≡ l)) (sym (records ∙ ap (λ (r : Option IngressRecord). records_heard so.heard ++ option_to_list r) none ∙ append-nil (records_heard so.heard)))
-        (reads_all lists' (records_heard so.heard) read offset here none (reads_grown lists lists' (records_heard so.heard) so.reads grows) reads);
+          (reads_all lists' (records_heard so.heard) read offset here none (reads_grown lists lists' (records_heard so.heard) so.reads grows) reads);
       read_is = turn.is_heard.read_is;
       taken = omega (arith, ap length records, length-append (records_heard so.heard) (option_to_list read), so.taken);
     }
@@ -312,7 +313,7 @@ ends_in m patience turns made lists before after exchanges read work new end few
   reads = o.reads;
   reads_all = λ d. o.reads_all (sym o.read_is ∙ done_read m patience (made + 1) o.last work new.entries end o.end_is d);
   end_is = subst (λ (t : Turned). IsRunEnd t turns (length (o.whole ++ o.last ∷ [])) new.entries end) (sym o.turns_is)
-    (end_behind (turns_of m patience o.whole).events (turned m patience (made + 1) o.last work) turns (length (o.whole ++ o.last ∷ [])) new.entries end o.end_is);
+      (end_behind (turns_of m patience o.whole).events (turned m patience (made + 1) o.last work) turns (length (o.whole ++ o.last ∷ [])) new.entries end o.end_is);
 }
 
 -- the run ended between two turns

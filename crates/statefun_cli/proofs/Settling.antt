@@ -42,7 +42,7 @@ module _ (m : Module) (turn : ℕ) (read : Option IngressRecord) (sender : Sende
       → judged_turn turn read sender target others answer work events (Accept response) ≡ fated_turn m turn read sender target others work events (fate_told told)
   fated_accept told answer response e v =
       sym (ap (λ (t : Option Answered). fated_turn m turn read sender target others work events (fate_told t)) e
-        ∙ ap (λ (j : Judged). judged_turn turn read sender target others answer work events j) v)
+      ∙ ap (λ (j : Judged). judged_turn turn read sender target others answer work events j) v)
 
 -- the text of a record with one more batch
 pub text_served : (m : Module) (turn : ℕ) (read : Option IngressRecord) (sender : Sender) (target : Address) (answer : List ℕ) (response : InvocationResponse) (text text' : List ℕ) (entries entries' : List Entry)
@@ -53,10 +53,10 @@ text_served m turn read sender target answer response text text' entries entries
     let batch = batch_entry turn read sender target answer in
     let one : flat_map records (batch ∷ []) ≡ map (egress_record target) response.outgoing_egresses = append-nil (records_of_step m batch.step) ∙ ap (records_judged target) v in
     let all : egress_of m entries' ≡ egress_of m entries ++ map (egress_record target) response.outgoing_egresses =
-      ap (egress_of m) n ∙ flat_map-append records entries (batch ∷ []) ∙ ap (λ (x : List _). flat_map records entries ++ x) one in
+    ap (egress_of m) n ∙ flat_map-append records entries (batch ∷ []) ∙ ap (λ (x : List _). flat_map records entries ++ x) one in
     t ∙ ap (λ (x : List ℕ). x ++ flat_map egress_line (map (egress_record target) response.outgoing_egresses)) e
-      ∙ sym (flat_map-append egress_line (flat_map records entries) (map (egress_record target) response.outgoing_egresses))
-      ∙ sym (ap egress_text all)
+    ∙ sym (flat_map-append egress_line (flat_map records entries) (map (egress_record target) response.outgoing_egresses))
+    ∙ sym (ap egress_text all)
 
 -- where memory did not run out, both facts give a third
 pub unless_memory : {P Q R : Type 0} (end : Option PlainEnd) → (P → Q → R) → UnlessMemory end P → UnlessMemory end Q → UnlessMemory end R

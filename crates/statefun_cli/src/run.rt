@@ -11,20 +11,14 @@ ghost use Rattle.statefun_cli.specs.Running.{IsNoSinkFault};
 use crate::drive::drive;
 use crate::progress::Progress;
 use crate::turn::PATIENCE;
-use crate::{Plan, PlainEnd, PlainRun, WordsFault, read_words, write_whole};
+use crate::{PlainEnd, PlainRun, Plan, WordsFault, read_words, write_whole};
 use proto_wire::{Bytes, List};
 use run_record::Routes;
 use sf_outside::{Fault, Ingress, Link, Sink};
 use std::alloc::Global;
 
 /// Tells how a run ended: writes the text and the line of the end behind it. Nothing is written where memory ran out.
-fn tell<O: Sink>(
-    alloc: Global,
-    out: &mut O,
-    end: PlainEnd,
-    mut text: Bytes,
-    turns: u64,
-) -> PlainEnd
+fn tell<O: Sink>(alloc: Global, out: &mut O, end: PlainEnd, mut text: Bytes, turns: u64) -> PlainEnd
     requires { IsNoSinkFault end }
     ensures told { IsTold (O.written out.old) (O.written out.new) text turns end result }
     ensures quiet { end ≡ PlainEnd.OutOfMemory → (result ≡ PlainEnd.OutOfMemory) × (O.written out.new ≡ O.written out.old) }

@@ -25,13 +25,13 @@ returns-in-Err-clause-run g c = rw c.ingress_end.ensures (ends_unread c.args.rou
 pub returns-in-Some-clause-run : goal.returns-in-Some-clause-run
 returns-in-Some-clause-run g c =
     ends_in c.args.routes.now _ c.args.turns c.loop-made.made _ _ _ _ c.in-Ok.read (work_of c.loop-made.progress) (work_of c.make_turn.new.self) c.in-Some.end (omega arith)
-      (subst (λ (e : Option PlainEnd). OneMore c.args.routes.now PATIENCE c.loop-made.made (g.I.Ingress.lists c.read.new.self) (g.L.Link.journal c.args.link.now) (g.L.Link.journal c.make_turn.new.link) (g.L.Link.exchanges c.make_turn.new.link) c.in-Ok.read (work_of c.loop-made.progress) (work_of c.make_turn.new.self) e) c.in-Some.is
-        (one_more c.args.routes.now _ c.loop-made.made _ _ _ _ _ _ _ c.in-Ok.read c.loop-made.progress.taken (work_of c.loop-made.progress) (work_of c.make_turn.new.self) c.make_turn.result c.loop-made.invariant.so c.read.ensures.grows c.in-Ok.ensures.reads refl c.make_turn.ensures.exchanges c.make_turn.ensures.made))
+    (subst (λ (e : Option PlainEnd). OneMore c.args.routes.now PATIENCE c.loop-made.made (g.I.Ingress.lists c.read.new.self) (g.L.Link.journal c.args.link.now) (g.L.Link.journal c.make_turn.new.link) (g.L.Link.exchanges c.make_turn.new.link) c.in-Ok.read (work_of c.loop-made.progress) (work_of c.make_turn.new.self) e) c.in-Some.is
+    (one_more c.args.routes.now _ c.loop-made.made _ _ _ _ _ _ _ c.in-Ok.read c.loop-made.progress.taken (work_of c.loop-made.progress) (work_of c.make_turn.new.self) c.make_turn.result c.loop-made.invariant.so c.read.ensures.grows c.in-Ok.ensures.reads refl c.make_turn.ensures.exchanges c.make_turn.ensures.made))
 
 pub loop-made-preserved : goal.loop-made-preserved
 loop-made-preserved g c = record {
   so = goes_on c.args.routes.now _ c.loop-made.made _ _ _ _ c.in-Ok.read (work_of c.loop-made.progress) (work_of c.make_turn.new.self)
-    (subst (λ (e : Option PlainEnd). OneMore c.args.routes.now PATIENCE c.loop-made.made (g.I.Ingress.lists c.read.new.self) (g.L.Link.journal c.args.link.now) (g.L.Link.journal c.make_turn.new.link) (g.L.Link.exchanges c.make_turn.new.link) c.in-Ok.read (work_of c.loop-made.progress) (work_of c.make_turn.new.self) e) c.in_default.is
+      (subst (λ (e : Option PlainEnd). OneMore c.args.routes.now PATIENCE c.loop-made.made (g.I.Ingress.lists c.read.new.self) (g.L.Link.journal c.args.link.now) (g.L.Link.journal c.make_turn.new.link) (g.L.Link.exchanges c.make_turn.new.link) c.in-Ok.read (work_of c.loop-made.progress) (work_of c.make_turn.new.self) e) c.in_default.is
       (one_more c.args.routes.now _ c.loop-made.made _ _ _ _ _ _ _ c.in-Ok.read c.loop-made.progress.taken (work_of c.loop-made.progress) (work_of c.make_turn.new.self) c.make_turn.result c.loop-made.invariant.so c.read.ensures.grows c.in-Ok.ensures.reads refl c.make_turn.ensures.exchanges c.make_turn.ensures.made));
   text = subst (λ (e : Option PlainEnd). IsTurnText c.args.routes.now c.make_turn.new.self.text c.make_turn.new.self.entries e) c.in_default.is (c.make_turn.ensures.text c.loop-made.invariant.text);
   few = omega (arith, c.loop-made.invariant.few, c.make_turn.ensures.taken);

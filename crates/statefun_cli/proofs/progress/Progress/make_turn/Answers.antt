@@ -12,9 +12,9 @@ pub returns-in-None-clause-made : goal.returns-in-None-clause-made
 returns-in-None-clause-made g c =
     let took = c.in-Ok.ensures.ok in
     turn_idle c.args.routes.now _ c.args.turn c.args.read (work_of c.args.self.now) _ _ _ _ c.end_at.result refl
-      (sym (ap (λ (w : Work). w.waiting) took) ∙ nothing_waits c.take.new.self.waiting.items c.pop_front.new.self.items c.in-None.ensures.items c.in-None.ensures.rest)
-      (ap (λ (waiting : List Letter). record { taken = c.take.new.self.taken; waiting = waiting; entries = c.take.new.self.entries }) (sym c.in-None.ensures.items) ∙ took)
-      c.end_at.ensures
+    (sym (ap (λ (w : Work). w.waiting) took) ∙ nothing_waits c.take.new.self.waiting.items c.pop_front.new.self.items c.in-None.ensures.items c.in-None.ensures.rest)
+    (ap (λ (waiting : List Letter). record { taken = c.take.new.self.taken; waiting = waiting; entries = c.take.new.self.entries }) (sym c.in-None.ensures.items) ∙ took)
+    c.end_at.ensures
 
 pub returns-in-None-clause-text : goal.returns-in-None-clause-text
 returns-in-None-clause-text g c = λ e. text_idle c.args.routes.now c.take.new.self.text c.take.new.self.entries c.end_at.result
@@ -23,9 +23,9 @@ returns-in-None-clause-text g c = λ e. text_idle c.args.routes.now c.take.new.s
 pub returns-clause-made : goal.returns-clause-made
 returns-clause-made g c =
     turn_asked c.args.routes.now _ c.args.turn c.args.read (work_of c.args.self.now) (work_of c.serve.new.self) _ _ _ c.in-Some.letter c.pop_front.new.self.items
-      (with_front c.in-Some.letter (record { taken = c.take.new.self.taken; waiting = c.pop_front.new.self.items; entries = c.take.new.self.entries })) c.serve.result
-      (sym c.in-Ok.ensures.ok ∙ ap (λ (waiting : List Letter). record { taken = c.take.new.self.taken; waiting = waiting; entries = c.take.new.self.entries }) c.in-Some.ensures.items)
-      refl c.serve.ensures.made
+    (with_front c.in-Some.letter (record { taken = c.take.new.self.taken; waiting = c.pop_front.new.self.items; entries = c.take.new.self.entries })) c.serve.result
+    (sym c.in-Ok.ensures.ok ∙ ap (λ (waiting : List Letter). record { taken = c.take.new.self.taken; waiting = waiting; entries = c.take.new.self.entries }) c.in-Some.ensures.items)
+    refl c.serve.ensures.made
 
 pub returns-clause-text : goal.returns-clause-text
 returns-clause-text g c = λ e. c.serve.ensures.text

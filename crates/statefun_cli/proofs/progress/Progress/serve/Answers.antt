@@ -19,11 +19,11 @@ returns-in-Err-clause-made g c = rw c.link_end.ensures
 pub returns-in-Ok-outcome_of-clause-made : goal.returns-in-Ok-outcome_of-clause-made
 returns-in-Ok-outcome_of-clause-made g c =
     asked_told c.args.routes.now _ c.args.turn c.args.read.now c.args.letter (with_front c.args.letter (work_of c.args.self.now)) (work_of c.settle.new.self) c.args.self.now.waiting.items _ _ _ c.call_in-call.result c.in-Ok-outcome_of.told c.settle.result (g.L.Link.journal c.start.new.self)
-      c.call_in-call.ensures (search rules) c.in-Ok-outcome_of.ensures.heard c.in-Ok-outcome_of.ensures.answered
-      (λ events.
-        subst (λ (s : Sender). IsTurnEnd (fated_turn c.args.routes.now c.args.turn c.args.read.now s c.args.letter.target c.args.self.now.waiting.items (with_front c.args.letter (work_of c.args.self.now)) events (fate_told c.in-Ok-outcome_of.told)) (work_of c.settle.new.self) c.settle.result) c.in-Ok.ensures.sender
-          (subst (λ (t : Address). IsTurnEnd (fated_turn c.args.routes.now c.args.turn c.args.read.now c.in-Ok.asked.sender t c.args.self.now.waiting.items (with_front c.args.letter (work_of c.args.self.now)) events (fate_told c.in-Ok-outcome_of.told)) (work_of c.settle.new.self) c.settle.result) c.in-Ok.ensures.target
-            (c.settle.ensures.end c.args.letter events)))
+    c.call_in-call.ensures (search rules) c.in-Ok-outcome_of.ensures.heard c.in-Ok-outcome_of.ensures.answered
+    (λ events.
+    subst (λ (s : Sender). IsTurnEnd (fated_turn c.args.routes.now c.args.turn c.args.read.now s c.args.letter.target c.args.self.now.waiting.items (with_front c.args.letter (work_of c.args.self.now)) events (fate_told c.in-Ok-outcome_of.told)) (work_of c.settle.new.self) c.settle.result) c.in-Ok.ensures.sender
+    (subst (λ (t : Address). IsTurnEnd (fated_turn c.args.routes.now c.args.turn c.args.read.now c.in-Ok.asked.sender t c.args.self.now.waiting.items (with_front c.args.letter (work_of c.args.self.now)) events (fate_told c.in-Ok-outcome_of.told)) (work_of c.settle.new.self) c.settle.result) c.in-Ok.ensures.target
+    (c.settle.ensures.end c.args.letter events)))
 
 pub returns-in-Ok-outcome_of-clause-own : goal.returns-in-Ok-outcome_of-clause-own
 returns-in-Ok-outcome_of-clause-own g c = calm_own _ c.settle.ensures.calm
@@ -31,4 +31,4 @@ returns-in-Ok-outcome_of-clause-own g c = calm_own _ c.settle.ensures.calm
 pub returns-in-Err-outcome_of-clause-made : goal.returns-in-Err-outcome_of-clause-made
 returns-in-Err-outcome_of-clause-made g c = rw c.link_end-in-Err-outcome_of.ensures
     (asked_waiting c.args.routes.now _ c.args.turn c.args.read.now c.args.letter (with_front c.args.letter (work_of c.args.self.now)) (work_of c.args.self.now) c.args.self.now.waiting.items _ _ _ c.call_in-call.result c.in-Err-outcome_of.fault (g.L.Link.journal c.start.new.self)
-      c.call_in-call.ensures (search rules) c.in-Err-outcome_of.ensures.heard refl)
+    c.call_in-call.ensures (search rules) c.in-Err-outcome_of.ensures.heard refl)

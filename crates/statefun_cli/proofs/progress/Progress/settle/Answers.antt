@@ -10,8 +10,8 @@ returns-in-Err-clause-end c = λ letter events. fated_front c.args.routes.now c.
 pub returns-in-Ok-Accept-clause-end : goal.returns-in-Ok-Accept-clause-end
 returns-in-Ok-Accept-clause-end c = λ letter events.
     subst (λ (t : Turned). IsTurnEnd t (work_of c.served.new.self) c.served.result)
-      (fated_accept c.args.routes.now c.args.turn c.args.read.now c.args.sender c.args.target c.args.self.now.waiting.items (with_front letter (work_of c.args.self.now)) events c.args.told c.in-Some-Answer.answer c.in-Ok-Accept.response (cc) (search rules))
-      (c.served.ensures.end letter events)
+    (fated_accept c.args.routes.now c.args.turn c.args.read.now c.args.sender c.args.target c.args.self.now.waiting.items (with_front letter (work_of c.args.self.now)) events c.args.told c.in-Some-Answer.answer c.in-Ok-Accept.response (cc) (search rules))
+    (c.served.ensures.end letter events)
 
 pub returns-in-Ok-Accept-clause-text : goal.returns-in-Ok-Accept-clause-text
 returns-in-Ok-Accept-clause-text c = λ e.
