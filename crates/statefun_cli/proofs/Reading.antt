@@ -15,7 +15,7 @@ use Rattle.statefun_cli.specs.declared.end.PlainEnd.{PlainEnd}
 use Rattle.statefun_cli.specs.declared.end.PlainEnd.TheVariants.{Done, Usage, TurnsSpent, EndpointFailed, IngressFault, LinkFault, SinkFault, OutOfMemory}
 use Rattle.statefun_cli.specs.Turns.{Heard, Work, Status, Going, Cut, Ended, Turned, call_in, take_entry, work_read, status_at, asked_turn, turned}
 use Rattle.statefun_cli.specs.Progress.{IsFront, IsTextOf, IsTurnText, IsTurnEnd, IsEndOf, status_of, with_front}
-use Rattle.statefun_cli.specs.Making.{IsHeard, IsAsked, IsTurnMade}
+use Rattle.statefun_cli.specs.Making.{AreShort, IsHeard, IsAsked, IsTurnMade}
 use Rattle.statefun_cli.proofs.Serving.{no_polls}
 
 -- a take adds nothing to the egress
@@ -94,6 +94,7 @@ module _ (m : Module) (patience turn : ℕ) (read : Option IngressRecord) (old n
     read_is = refl;
     its = no_polls patience turn;
     journal = e ∙ sym (more-nil before) ∙ ap (more before) (sym (quiet_events (work_read m turn read old).waiting));
+    short = subst AreShort (sym (quiet_events (work_read m turn read old).waiting)) tt;
     answered = λ what h. absurd cc;
   }
 

@@ -30,7 +30,7 @@ use Rattle.sf_outside.specs.declared.fault.Fault.{Fault}
 use Rattle.sf_outside.specs.declared.fault.Fault.TheVariants as faults
 use Rattle.statefun_cli.specs.Progress.{IsFront, IsEndOf, IsTurnEnd, IsTextOf, IsTurnText}
 use Rattle.run_record.specs.Egress.{egress_of, egress_text}
-use Rattle.statefun_cli.specs.Making.{IsTurnMade, IsTurnsOwn}
+use Rattle.statefun_cli.specs.Making.{AreShort, IsTurnMade, IsTurnsOwn}
 use Rattle.statefun_cli.specs.Running.{IsProper, AreProper, IsRun, IsRunEnd, is_done, ingress_end, IsNoSinkFault}
 
 -- ---- one more turn
@@ -186,6 +186,10 @@ pub AreProper-push : (patience turn number : ℕ) (journal : Option (List LinkEv
 AreProper-push patience turn number journal exchanges [] last n h p = let here : number ≡ turn = omega (arith, n) in (subst (λ (k : ℕ). IsProper patience k journal exchanges last) here p, tt)
 AreProper-push patience turn number journal exchanges (first ∷ heard) last n h p = (h.0, AreProper-push patience (turn + 1) number journal exchanges heard last (omega (arith, n)) h.1 p)
 
+AreShort-append : (a b : List LinkEvent) → AreShort a → AreShort b → AreShort (a ++ b)
+AreShort-append [] b h k = k
+AreShort-append (event ∷ a) b h k = (h.0, AreShort-append a b h.1 k)
+
 -- ---- a run so far
 
 -- what was heard in the turns so far, after each of which the run went on
@@ -196,6 +200,7 @@ pub record RunsSo (m : Module) (patience made : ℕ) (lists : Option Lists) (bef
   pub work_is : work ≡ (turns_of m patience heard).work
   pub proper : AreProper patience 1 after exchanges heard
   pub journal : after ≡ more before (turns_of m patience heard).events
+  pub short : AreShort (turns_of m patience heard).events
   pub reads : IfSome lists (λ told. IsFront (records_heard heard) (split_of told 0))
   pub taken : work.taken ≡ length (records_heard heard)
 
@@ -212,6 +217,7 @@ RunsSo-none m patience lists journal exchanges work e = record {
   work_is = e;
   proper = tt;
   journal = sym (more-nil journal);
+  short = tt;
   reads = no_reads lists;
   taken = ap (λ (w : Work). w.taken) e;
 }
@@ -226,6 +232,7 @@ pub record OneMore (m : Module) (patience made : ℕ) (lists : Option Lists) (be
   pub end_is : IsTurnEnd (turned m patience (made + 1) last work) new end
   pub proper : AreProper patience 1 after exchanges (whole ++ last ∷ [])
   pub journal : after ≡ more before (turns_of m patience (whole ++ last ∷ [])).events
+  pub short : AreShort (turns_of m patience (whole ++ last ∷ [])).events
   pub reads : IfSome lists (λ told. IsFront (records_heard (whole ++ last ∷ [])) (split_of told 0))
   pub reads_all : read ≡ None → IfSome lists (λ told. split_of told 0 ≡ records_heard (whole ++ last ∷ []))
   pub read_is : last.read ≡ read
@@ -256,6 +263,7 @@ one_more m patience made lists lists' before middle after exchanges exchanges' r
           (AreProper-later patience 1 middle after t.events exchanges exchanges' so.heard turn.is_heard.journal extends so.proper)
           (record { its = turn.is_heard.its; answered = turn.is_heard.answered });
       journal = turn.is_heard.journal ∙ ap (λ (j : Option (List LinkEvent)). more j t.events) so.journal ∙ more-more before (turns_from m patience 1 so.heard no_work).events t.events ∙ sym (ap (λ (x : Turned). more before x.events) turns);
+      short = subst (λ (x : Turned). AreShort x.events) (sym turns) (AreShort-append (turns_from m patience 1 so.heard no_work).events t.events so.short turn.is_heard.short);
       reads = subst (λ (l : List IngressRecord). IfSome lists' (λ told. IsFront l (split_of told 0))) (sym records) (reads_more lists lists' (records_heard so.heard) read offset here so.reads grows reads);
       reads_all = λ none. subst (λ (l : List IngressRecord). IfSome lists' (λ told. split_of told 0 ≡ l)) (sym (records ∙ ap (λ (r : Option IngressRecord). records_heard so.heard ++ option_to_list r) none ∙ append-nil (records_heard so.heard)))
           (reads_all lists' (records_heard so.heard) read offset here none (reads_grown lists lists' (records_heard so.heard) so.reads grows) reads);
@@ -272,6 +280,7 @@ goes_on m patience made lists before after exchanges read work new o = record {
   work_is = o.end_is.1 ∙ sym (ap (λ (t : Turned). t.work) o.turns_is);
   proper = o.proper;
   journal = o.journal;
+  short = o.short;
   reads = o.reads;
   taken = ap (λ (w : Work). w.taken) o.end_is.1 ∙ turned-taken m patience (made + 1) o.last work ∙ ap (λ (r : Option IngressRecord). work.taken + length (option_to_list r)) o.read_is ∙ o.taken;
 }
@@ -310,6 +319,7 @@ ends_in m patience turns made lists before after exchanges read work new end few
   few = omega (arith, length-append o.whole (o.last ∷ []), o.counted);
   proper = o.proper;
   journal = o.journal;
+  short = o.short;
   reads = o.reads;
   reads_all = λ d. o.reads_all (sym o.read_is ∙ done_read m patience (made + 1) o.last work new.entries end o.end_is d);
   end_is = subst (λ (t : Turned). IsRunEnd t turns (length (o.whole ++ o.last ∷ [])) new.entries end) (sym o.turns_is)
@@ -328,6 +338,7 @@ ends_at m patience turns made lists lists' before after exchanges work end few d
       few = omega (arith, ap length all, so.counted);
       proper = subst (AreProper patience 1 after exchanges) (sym all) so.proper;
       journal = so.journal ∙ ap (λ (h : List Heard). more before (turns_of m patience h).events) (sym all);
+      short = subst (λ (h : List Heard). AreShort (turns_of m patience h).events) (sym all) so.short;
       reads = subst (λ (h : List Heard). IfSome lists' (λ told. IsFront (records_heard h) (split_of told 0))) (sym all) (reads_grown lists lists' (records_heard so.heard) so.reads grows);
       reads_all = λ e. absurd (let h : true ≡ false = sym e ∙ d in cc);
       end_is = subst (λ (h : List Heard). IsRunEnd (turns_of m patience h) turns (length h) work.entries end) (sym all) (subst (λ (n : ℕ). IsRunEnd (turns_of m patience so.heard) turns n work.entries end) (sym so.counted) (is (turns_of m patience so.heard) so.going so.work_is));

@@ -1,5 +1,5 @@
 -- A letter is asked for: each way in which that goes.
-use Rattle.std.proofs.Common.{◌≡◌, ℕ, ◌≤◌, Bool, true, false, leb, cond, List, [], ◌∷◌, ◌++◌, length, map, Option, Some, None, Result, Ok, Err, refl, sym, ap, subst, ◌∙◌, arith}
+use Rattle.std.proofs.Common.{◌≡◌, ℕ, ◌≤◌, ◌<◌, ◌^◌, Bool, true, false, leb, cond, List, [], ◌∷◌, ◌++◌, length, map, Option, Some, None, Result, Ok, Err, refl, sym, ap, subst, ◌∙◌, arith}
 use Rattle.std.specs.Prelude.{unwrap_or, IfSome, IfOk}
 use Rattle.std.proofs.lemmas.Bool.{le-leb}
 use Rattle.sf_outside.specs.declared.call.Call.{Call}
@@ -26,7 +26,7 @@ use Rattle.statefun_cli.specs.declared.end.PlainEnd.TheVariants.{Done, Usage, Tu
 use Rattle.statefun_cli.specs.Turns.{Heard, Work, Turned, Fate, Open, TooLate, Told, call_in, own_outcome, fate_by, fate_of, AreItsPolls, start_of, request_for, judged_turn, fated_turn, asked_turn}
 use Rattle.statefun_cli.specs.Polling.{IsWaited, IsOwnAnswer, IsFateOf}
 use Rattle.statefun_cli.specs.Progress.{IsFront, IsTurnEnd, IsEndOf, IsCalm, with_front, fate_told}
-use Rattle.statefun_cli.specs.Making.{IsHeard, IsAsked, IsTurnsOwn, link_end}
+use Rattle.statefun_cli.specs.Making.{AreShort, IsHeard, IsAsked, IsTurnsOwn, link_end}
 use Rattle.statefun_cli.proofs.Settling.{fated_front}
 
 pub calm_own : (end : Option PlainEnd) → IsCalm end → IsTurnsOwn end
@@ -39,6 +39,11 @@ calm_own (Some (TurnsSpent taken)) h = absurd h
 calm_own (Some IngressFault) h = absurd h
 calm_own (Some LinkFault) h = absurd h
 calm_own (Some SinkFault) h = absurd h
+
+-- polls have no request
+AreShort-polls : (polls : List (Option Outcome)) → AreShort (map Polled polls)
+AreShort-polls [] = tt
+AreShort-polls (poll ∷ polls) = (tt, AreShort-polls polls)
 
 -- a turn that a fault cut short
 at_fault : (fault : Fault) (made : Turned) (new : Work) → IsFront new.entries made.work.entries → IsTurnEnd made new (Some (link_end fault))
@@ -61,7 +66,7 @@ module _ (m : Module) (patience turn : ℕ) (read : Option IngressRecord) (lette
   unfolding unstarted
   asked_unstarted fault e front = record {
     heard = unstarted;
-    is_heard = record { read_is = refl; its = no_polls patience turn; journal = e ∙ sym (more-nil before); answered = λ what h. absurd cc };
+    is_heard = record { read_is = refl; its = no_polls patience turn; journal = e ∙ sym (more-nil before); short = tt; answered = λ what h. absurd cc };
     end_is = at_fault fault (asked_turn m patience turn unstarted work (letter ∷ others)) new front;
   }
 
@@ -87,24 +92,25 @@ module _ (m : Module) (patience turn : ℕ) (read : Option IngressRecord) (lette
       by_what (Answer answer) = judged-events answer (verdict m.egresses answer)
       by_what (Lost note) = refl
 
-  is_heard_of : (polls : List (Option Outcome)) (middle : Option (List LinkEvent)) → AreItsPolls patience (call_in turn) polls → middle ≡ more before (start_of m turn letter ∷ []) → after ≡ more middle (map Polled polls)
+  is_heard_of : (polls : List (Option Outcome)) (middle : Option (List LinkEvent)) → length (to_spelling (request_for letter)) < 2 ^ 64 → AreItsPolls patience (call_in turn) polls → middle ≡ more before (start_of m turn letter ∷ []) → after ≡ more middle (map Polled polls)
       → ((what : Answered) → own_outcome (call_in turn) polls ≡ Some what → IsOwnAnswer after exchanges (call_in turn) what)
       → IsHeard patience turn read before after exchanges (heard_of polls) (asked_turn m patience turn (heard_of polls) work (letter ∷ others))
   unfolding heard_of
-  is_heard_of polls middle its e f answered = record {
+  is_heard_of polls middle small its e f answered = record {
     read_is = refl;
     its = its;
     journal = journal_asked middle polls (start_of m turn letter) e f ∙ ap (more before) (sym (fated-events (start_of m turn letter ∷ map Polled polls) (fate_of patience (call_in turn) polls)));
+    short = subst AreShort (sym (fated-events (start_of m turn letter ∷ map Polled polls) (fate_of patience (call_in turn) polls))) (small, AreShort-polls polls);
     answered = answered;
   }
 
   -- a poll failed
-  asked_waiting_in : (fault : Fault) (middle : Option (List LinkEvent)) (polls : List (Option Outcome)) → middle ≡ more before (start_of m turn letter ∷ []) → IsWaited middle after patience (call_in turn) polls (Err fault) → new.entries ≡ work.entries
+  asked_waiting_in : length (to_spelling (request_for letter)) < 2 ^ 64 → (fault : Fault) (middle : Option (List LinkEvent)) (polls : List (Option Outcome)) → middle ≡ more before (start_of m turn letter ∷ []) → IsWaited middle after patience (call_in turn) polls (Err fault) → new.entries ≡ work.entries
       → IsAsked m patience turn read work (letter ∷ others) new before after exchanges (Some (link_end fault))
   unfolding heard_of
-  asked_waiting_in fault middle polls e w same = record {
+  asked_waiting_in small fault middle polls e w same = record {
     heard = heard_of polls;
-    is_heard = is_heard_of polls middle w.its e w.journal (λ what own. absurd (none_told polls what w.fate own));
+    is_heard = is_heard_of polls middle small w.its e w.journal (λ what own. absurd (none_told polls what w.fate own));
     end_is = at_fault fault (fated polls) new (subst (λ (es : List Entry). IsFront es (fated polls).work.entries) (sym same) (fated_front m turn read letter.sender letter.target others work (start_of m turn letter ∷ map Polled polls) (fate_of patience (call_in turn) polls)));
   }
     where
@@ -129,25 +135,25 @@ module _ (m : Module) (patience turn : ℕ) (read : Option IngressRecord) (lette
       none_some a e = cc
 
   -- all polls were made, and what was told of the call took effect
-  asked_told_in : (told : Option Answered) (end : Option PlainEnd) (middle : Option (List LinkEvent)) (polls : List (Option Outcome)) → middle ≡ more before (start_of m turn letter ∷ []) → IsWaited middle after patience (call_in turn) polls (Ok told)
+  asked_told_in : length (to_spelling (request_for letter)) < 2 ^ 64 → (told : Option Answered) (end : Option PlainEnd) (middle : Option (List LinkEvent)) (polls : List (Option Outcome)) → middle ≡ more before (start_of m turn letter ∷ []) → IsWaited middle after patience (call_in turn) polls (Ok told)
       → IfSome told (λ what. IsOwnAnswer after exchanges (call_in turn) what)
       → ((events : List LinkEvent) → IsTurnEnd (fated_turn m turn read letter.sender letter.target others work events (fate_told told)) new end)
       → IsAsked m patience turn read work (letter ∷ others) new before after exchanges end
   unfolding heard_of
-  asked_told_in told end middle polls e w answered made = record {
+  asked_told_in small told end middle polls e w answered made = record {
     heard = heard_of polls;
-    is_heard = is_heard_of polls middle w.its e w.journal (answered_told polls told w.fate answered);
+    is_heard = is_heard_of polls middle small w.its e w.journal (answered_told polls told w.fate answered);
     end_is = subst (λ (f : Fate). IsTurnEnd (fated_turn m turn read letter.sender letter.target others work (start_of m turn letter ∷ map Polled polls) f) new end) (sym (fate-told polls told w.fate)) (made (start_of m turn letter ∷ map Polled polls));
   }
 
   -- the same, under the name of the call
-  pub asked_waiting : (call : Call) (fault : Fault) (middle : Option (List LinkEvent)) → call ≡ call_in turn → middle ≡ more before (start_of m turn letter ∷ []) → (polls : List (Option Outcome)) × IsWaited middle after patience call polls (Err fault) → new.entries ≡ work.entries
+  pub asked_waiting : length (to_spelling (request_for letter)) < 2 ^ 64 → (call : Call) (fault : Fault) (middle : Option (List LinkEvent)) → call ≡ call_in turn → middle ≡ more before (start_of m turn letter ∷ []) → (polls : List (Option Outcome)) × IsWaited middle after patience call polls (Err fault) → new.entries ≡ work.entries
       → IsAsked m patience turn read work (letter ∷ others) new before after exchanges (Some (link_end fault))
-  asked_waiting call fault middle c e w same = asked_waiting_in fault middle w.0 e (subst (λ (x : Call). IsWaited middle after patience x w.0 (Err fault)) c w.1) same
+  asked_waiting small call fault middle c e w same = asked_waiting_in small fault middle w.0 e (subst (λ (x : Call). IsWaited middle after patience x w.0 (Err fault)) c w.1) same
 
-  pub asked_told : (call : Call) (told : Option Answered) (end : Option PlainEnd) (middle : Option (List LinkEvent)) → call ≡ call_in turn → middle ≡ more before (start_of m turn letter ∷ []) → (polls : List (Option Outcome)) × IsWaited middle after patience call polls (Ok told)
+  pub asked_told : length (to_spelling (request_for letter)) < 2 ^ 64 → (call : Call) (told : Option Answered) (end : Option PlainEnd) (middle : Option (List LinkEvent)) → call ≡ call_in turn → middle ≡ more before (start_of m turn letter ∷ []) → (polls : List (Option Outcome)) × IsWaited middle after patience call polls (Ok told)
       → IfSome told (λ what. IsOwnAnswer after exchanges call what)
       → ((events : List LinkEvent) → IsTurnEnd (fated_turn m turn read letter.sender letter.target others work events (fate_told told)) new end)
       → IsAsked m patience turn read work (letter ∷ others) new before after exchanges end
-  asked_told call told end middle c e w answered made =
-      asked_told_in told end middle w.0 e (subst (λ (x : Call). IsWaited middle after patience x w.0 (Ok told)) c w.1) (subst (λ (x : Call). IfSome told (λ what. IsOwnAnswer after exchanges x what)) c answered) made
+  asked_told small call told end middle c e w answered made =
+      asked_told_in small told end middle w.0 e (subst (λ (x : Call). IsWaited middle after patience x w.0 (Ok told)) c w.1) (subst (λ (x : Call). IfSome told (λ what. IsOwnAnswer after exchanges x what)) c answered) made

@@ -1,7 +1,8 @@
 -- How a turn is made: what was heard in it, and what came of that.
-use Rattle.std.specs.Prelude.{◌≡◌, ◌≤◌, ℕ, List, ◌∷◌, Option, Some, None}
+use Rattle.std.specs.Prelude.{◌≡◌, ◌≤◌, ◌<◌, ◌^◌, ℕ, List, [], ◌∷◌, length, Option, Some, None}
 use Rattle.sf_outside.specs.declared.call.Answered.{Answered}
 use Rattle.sf_outside.specs.declared.call.LinkEvent.{LinkEvent}
+use Rattle.sf_outside.specs.declared.call.LinkEvent.TheVariants.{Started, Polled}
 use Rattle.sf_outside.specs.declared.call.Exchange.{Exchange}
 use Rattle.sf_outside.specs.declared.fault.Fault.{Fault}
 use Rattle.sf_outside.specs.declared.fault.Fault.TheVariants as faults
@@ -15,11 +16,21 @@ use Rattle.statefun_cli.specs.Turns.{Heard, Work, Turned, call_in, own_outcome, 
 use Rattle.statefun_cli.specs.Polling.{IsOwnAnswer}
 use Rattle.statefun_cli.specs.Progress.{IsTurnEnd}
 
+-- a request that was started is as short as bytes in memory are
+abbrev pub IsShort : LinkEvent → Type 0
+IsShort (Started call url request) = length request < 2 ^ 64
+IsShort (Polled outcome) = Unit {0}
+
+abbrev pub AreShort : List LinkEvent → Type 0
+AreShort [] = Unit {0}
+AreShort (event ∷ events) = IsShort event × AreShort events
+
 -- what was heard of a turn's call is what the link did: its polls are in the journal, and an answer was exchanged
 pub record IsHeard (patience turn : ℕ) (read : Option IngressRecord) (before after : Option (List LinkEvent)) (exchanges : List Exchange) (heard : Heard) (made : Turned) : Type 0 where
   pub read_is : heard.read ≡ read
   pub its : AreItsPolls patience (call_in turn) heard.polls
   pub journal : after ≡ more before made.events
+  pub short : AreShort made.events
   pub answered : (what : Answered) → own_outcome (call_in turn) heard.polls ≡ Some what → IsOwnAnswer after exchanges (call_in turn) what
 
 -- A letter was asked for, with others behind it: something was heard of which the turn's work and its end come.

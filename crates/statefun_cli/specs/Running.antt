@@ -14,6 +14,7 @@ use Rattle.statefun_cli.specs.declared.end.PlainEnd.{PlainEnd}
 use Rattle.statefun_cli.specs.declared.end.PlainEnd.TheVariants.{Done, Usage, TurnsSpent, EndpointFailed, IngressFault, LinkFault, SinkFault, OutOfMemory}
 use Rattle.statefun_cli.specs.Turns.{Heard, Work, Turned, Status, Going, call_in, own_outcome, AreItsPolls, turns_of, records_heard}
 use Rattle.statefun_cli.specs.Polling.{IsOwnAnswer}
+use Rattle.statefun_cli.specs.Making.{AreShort}
 use Rattle.statefun_cli.specs.Progress.{IsFront, IsEndOf}
 
 -- the polls of a turn are those of its call, and an answer was exchanged
@@ -50,6 +51,7 @@ pub record IsRun (m : Module) (patience turns : ℕ) (lists : Option Lists) (bef
   pub few : length (whole ++ option_to_list last) ≤ turns
   pub proper : AreProper patience 1 after exchanges (whole ++ option_to_list last)
   pub journal : after ≡ more before (turns_of m patience (whole ++ option_to_list last)).events
+  pub short : AreShort (turns_of m patience (whole ++ option_to_list last)).events
   pub reads : IfSome lists (λ told. IsFront (records_heard (whole ++ option_to_list last)) (split_of told 0))
   pub reads_all : is_done end ≡ true → IfSome lists (λ told. split_of told 0 ≡ records_heard (whole ++ option_to_list last))
   pub end_is : IsRunEnd (turns_of m patience (whole ++ option_to_list last)) turns (length (whole ++ option_to_list last)) entries end

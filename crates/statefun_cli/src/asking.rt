@@ -1,5 +1,5 @@
 //! The request for a letter.
-ghost use Rattle.std.specs.Prelude.{◌≡◌, [], ◌∷◌, Some, IsSome, IfOk, unwrap_or};
+ghost use Rattle.std.specs.Prelude.{◌≡◌, ◌<◌, ◌^◌, [], ◌∷◌, length, Some, IsSome, IfOk, unwrap_or};
 ghost use Rattle.request_reply.specs.Spelling.{to_spelling};
 ghost use Rattle.run_record.specs.Routing.{url_of};
 ghost use Rattle.run_record.specs.Machine.{caller_of};
@@ -26,6 +26,7 @@ pub(crate) fn ask(alloc: Global, routes: &Routes, letter: Letter) -> Mem<Asked>
     ensures target { IfOk result (λ asked. asked.target ≡ letter.target) }
     ensures url { IfOk result (λ asked. asked.url ≡ unwrap_or (url_of routes.now letter.target.kind) []) }
     ensures request { IfOk result (λ asked. asked.request ≡ to_spelling (request_for letter)) }
+    ensures short { IfOk result (λ asked. length asked.request < 2 ^ 64) }
 {
     let url = url_for(alloc, routes, &letter.target)?;
     let Letter {
@@ -44,6 +45,7 @@ pub(crate) fn ask(alloc: Global, routes: &Routes, letter: Letter) -> Mem<Asked>
     };
     let request = ToFunction::Invocation(batch);
     let bytes = encode_to(alloc, &request)?;
+    let _length = bytes.len();
     let ToFunction::Invocation(batch) = request;
     Ok(Asked {
         sender,
