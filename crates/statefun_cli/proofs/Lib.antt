@@ -9,3 +9,5 @@ pub mod Written
 pub mod FirstWrong
 pub mod Runs
 pub mod Beginning
+pub mod Standing
+pub mod Replaying

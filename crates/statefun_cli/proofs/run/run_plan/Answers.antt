@@ -1,3 +1,4 @@
+use Rattle.statefun_cli.proofs.Replaying.{run_replays}
 use Rattle.std.proofs.Common.{subst}
 use Rattle.run_record.specs.declared.module.Module.{Module}
 use Rattle.statefun_cli.specs.declared.turn.TheConstants.{PATIENCE}
