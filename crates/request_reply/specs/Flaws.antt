@@ -1,5 +1,5 @@
 -- The first flaw of an answer, for endpoints, egresses and the cells of the address that answers. An answer is valid where it has none.
-use Rattle.std.specs.Prelude.{ℕ, ◌+◌, ℤ, pos, Bool, true, false, not, ◌&&◌, ◌||◌, ◌==◌, nat_lt, nat_le, int_lt, int_le, List, [], ◌∷◌, ◌++◌, length, Option, Some, None, Result, Ok, Err, if◌then◌else◌}
+use Rattle.std.specs.Prelude.{ℕ, ◌+◌, ℤ, pos, Bool, true, false, ◌&&◌, ◌||◌, nat_lt, int_lt, int_le, List, [], ◌∷◌, ◌++◌, length, Option, Some, None, Result, Ok, Err, if◌then◌else◌}
 use Rattle.std.specs.List.{list_any}
 use Rattle.std.specs.Str.{bytes_eq}
 use Rattle.proto_wire.specs.declared.fault.WireFault.{WireFault}
@@ -148,8 +148,8 @@ is_new cells spec = is_none (type_of cells spec.state_name)
 unfoldable pub result_flaw : Setting → InvocationResponse → Option Flaw
 result_flaw setting response =
     first_of_two (first_in (mutation_flaw setting.cells) 0 response.state_mutations)
-        (first_of_two (first_in (message_flaw setting.endpoints) 0 response.outgoing_messages)
-            (first_of_two (first_in (delayed_flaw setting.endpoints) 0 response.delayed_invocations) (first_in (egress_flaw setting.egresses) 0 response.outgoing_egresses)))
+    (first_of_two (first_in (message_flaw setting.endpoints) 0 response.outgoing_messages)
+    (first_of_two (first_in (delayed_flaw setting.endpoints) 0 response.delayed_invocations) (first_in (egress_flaw setting.egresses) 0 response.outgoing_egresses)))
 
 unfoldable pub incomplete_flaw : Setting → List PersistedValueSpec → Option Flaw
 incomplete_flaw setting missing = first_of_two (first_missing setting.cells 0 missing) (if list_any (is_new setting.cells) missing then None else Some (flaw_at NoNewName 0))

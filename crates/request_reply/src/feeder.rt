@@ -17,11 +17,14 @@ pub struct Feeder {
 }
 
 impl Model for Feeder {
+    ghost use Rattle.std.specs.Prelude.{◌≤◌, length};
     ghost use Rattle.request_reply.specs.Feeding.{Fed};
 
     ghost Value = { Fed };
 
     ghost view = { λ f. record { bytes = f.held; limit = f.most } };
+
+    ghost invariant = { λ f. length f.held ≤ f.most };
 }
 
 impl Feeder {
@@ -71,6 +74,7 @@ impl Feeder {
     pub fn feed_all(&mut self, pieces: &[Bytes]) -> Result<(), DecodeFault>
         ensures { Changes result self.new (fed self.old (pieces_joined pieces.now)) }
     {
+        let _most = self.most;
         for piece in pieces {
             self.feed(piece.as_slice())?;
         }
@@ -80,7 +84,11 @@ impl Feeder {
 
 /// The request that pieces spell together, of at most `limit` bytes: the same however the bytes are cut.
 #[tactic(auto, unfolding(crate::specs::Feeding::limited_to))]
-pub fn decode_pieces_to(alloc: Global, limit: u64, pieces: &[Bytes]) -> Result<ToFunction, DecodeFault>
+pub fn decode_pieces_to(
+    alloc: Global,
+    limit: u64,
+    pieces: &[Bytes],
+) -> Result<ToFunction, DecodeFault>
     ensures { Gives (λ request. request) result (limited_to limit (pieces_joined pieces.now)) }
 {
     let mut feeder = Feeder::new(alloc, limit);

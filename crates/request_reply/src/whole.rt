@@ -13,8 +13,8 @@ use crate::{
     ToFunction,
 };
 use proto_wire::{
-    Bytes, DecodeFault, Mem, Message, Record, joined, member_size, merge,
-    no_member, record_size, with_member,
+    Bytes, DecodeFault, Mem, Message, Record, joined, member_size, merge, no_member, record_size,
+    with_member,
 };
 use std::alloc::Global;
 use typed_values::{Letter, Sender};
