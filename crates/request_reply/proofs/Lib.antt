@@ -1,3 +1,4 @@
 pub mod Signed
 pub mod Counts
 pub mod Again
+pub mod Pieces

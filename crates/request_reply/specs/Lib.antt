@@ -6,3 +6,6 @@ pub mod Valid
 pub mod RequestAgain
 pub mod AnswerAgain
 pub mod WholeAgain
+pub mod Feeding
+pub mod Flaws
+pub mod Letters

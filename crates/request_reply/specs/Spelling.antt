@@ -1,5 +1,5 @@
 -- The canonical spellings, and the values that bytes spell.
-use Rattle.std.specs.Prelude.{ℕ, List, length, Option, None, Some, Result, Ok, Err}
+use Rattle.std.specs.Prelude.{ℕ, List, length, Some, Result}
 use Rattle.proto_wire.specs.declared.fault.WireFault.{WireFault}
 use Rattle.proto_wire.specs.Varint.{◌>>=◌}
 use Rattle.proto_wire.specs.Message.{spelling, value_in, present}

@@ -3,6 +3,7 @@
 
 mod answer;
 mod answer_messages;
+mod feeder;
 mod flaw;
 mod judging;
 mod request;
@@ -13,10 +14,11 @@ pub use answer::{
     DelayedInvocation, EgressMessage, ExpirationSpec, FromFunction, IncompleteInvocationContext,
     InvocationResponse, OutgoingInvocation, PersistedValueMutation, PersistedValueSpec,
 };
+pub use feeder::{Feeder, decode_pieces_from, decode_pieces_to};
 pub use flaw::{Flaw, FlawKind, Reason};
 pub use judging::{ANSWER_LIMIT, Judged, judge};
 pub use request::{BatchInvocation, InvocationBatchRequest, PersistedValue, ToFunction};
-pub use whole::{decode_from, decode_to, encode_from, encode_to, size_from, size_to};
+pub use whole::{decode_from, decode_to, encode_from, encode_to, size_from, size_letter, size_to};
 
 #[cfg(test)]
 mod tests;

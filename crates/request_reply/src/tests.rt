@@ -1,98 +1,305 @@
+ghost use Rattle.std.specs.Prelude.{◌≤◌, length};
+
 use super::*;
-use proto_wire::{DecodeFault, List, Text, WireFault, WireKind};
+use proto_wire::{Bytes, DecodeFault, List, Text, WireFault, WireKind};
 use std::alloc::Global;
-use std::process::Abort;
 use std::test::Fail;
-use typed_values::TypeName;
+use typed_values::{Address, Letter, Sender, TypeName, text_value};
 
-/// The input is an answer, and is spelled as `want` again.
-fn answers(rt: &impl Abort, alloc: Global, input: &[u8], want: &[u8]) -> Result<(), Fail> {
-    let value = decode_from(alloc, input).ok().ok_or("no answer")?;
-    let bytes = encode_from(alloc, &value)?;
-    assert_eq!(rt; bytes.as_slice(), want);
-    assert_eq!(rt; size_from(&value), want.len() as u64);
-    Ok(())
-}
+/// Answers, and how they are spelled again.
+const ANSWERS: [(&[u8], &[u8]); 33] = [
+    (b"\xa2\x06\x00", b"\xa2\x06\x00"),
+    (b"\xaa\x06\x00", b"\xaa\x06\x00"),
+    (
+        b"\xa2\x06\x02\x22\x00\xaa\x06\x00\xa2\x06\x00",
+        b"\xa2\x06\x00",
+    ),
+    (
+        b"\xa2\x06\x02\x22\x00\xa2\x06\x02\x22\x00",
+        b"\xa2\x06\x04\x22\x00\x22\x00",
+    ),
+    (
+        b"\xa2\x06\x0d\x1a\x0b\x08\xff\xff\xff\xff\xff\xff\xff\xff\xff\x01",
+        b"\xa2\x06\x0d\x1a\x0b\x08\xff\xff\xff\xff\xff\xff\xff\xff\xff\x01",
+    ),
+    (
+        b"\xaa\x06\x1c\x0a\x1a\x0a\x01\x6e\x1a\x15\x69\x6f\x2e\x73\x74\x61\x74\x65\x66\x75\x6e\x2e\x74\x79\x70\x65\x73\x2f\x69\x6e\x74",
+        b"\xaa\x06\x1c\x0a\x1a\x0a\x01\x6e\x1a\x15\x69\x6f\x2e\x73\x74\x61\x74\x65\x66\x75\x6e\x2e\x74\x79\x70\x65\x73\x2f\x69\x6e\x74",
+    ),
+    (b"\xa2\x86\x00\x00", b"\xa2\x06\x00"),
+    (b"\xa2\x06\x80\x00", b"\xa2\x06\x00"),
+    (b"\x08\x05\xa2\x06\x00", b"\xa2\x06\x00"),
+    (
+        b"\x09\x01\x02\x03\x04\x05\x06\x07\x08\xa2\x06\x00",
+        b"\xa2\x06\x00",
+    ),
+    (b"\x0d\x01\x02\x03\x04\xa2\x06\x00", b"\xa2\x06\x00"),
+    (b"\x0a\x01\xff\xa2\x06\x00", b"\xa2\x06\x00"),
+    (b"\xa0\x06\x05\xa2\x06\x00", b"\xa2\x06\x00"),
+    (
+        b"\xa1\x06\x01\x02\x03\x04\x05\x06\x07\x08\xa2\x06\x00",
+        b"\xa2\x06\x00",
+    ),
+    (b"\xa5\x06\x01\x02\x03\x04\xa2\x06\x00", b"\xa2\x06\x00"),
+    (
+        b"\xa2\x06\x04\x22\x00\x0a\x00",
+        b"\xa2\x06\x04\x0a\x00\x22\x00",
+    ),
+    (
+        b"\xa2\x06\x08\x0a\x06\x12\x01\x61\x12\x01\x62",
+        b"\xa2\x06\x05\x0a\x03\x12\x01\x62",
+    ),
+    (
+        b"\xa2\x06\x04\x0a\x02\x08\x01",
+        b"\xa2\x06\x04\x0a\x02\x08\x01",
+    ),
+    (
+        b"\xa2\x06\x0d\x0a\x0b\x08\xff\xff\xff\xff\xff\xff\xff\xff\xff\x01",
+        b"\xa2\x06\x0d\x0a\x0b\x08\xff\xff\xff\xff\xff\xff\xff\xff\xff\x01",
+    ),
+    (
+        b"\xa2\x06\x08\x0a\x06\x08\x80\x80\x80\x80\x10",
+        b"\xa2\x06\x02\x0a\x00",
+    ),
+    (
+        b"\xa2\x06\x08\x0a\x06\x08\x80\x80\x80\x80\x08",
+        b"\xa2\x06\x0d\x0a\x0b\x08\x80\x80\x80\x80\xf8\xff\xff\xff\xff\x01",
+    ),
+    (
+        b"\xa2\x06\x0b\x0a\x09\x1a\x03\x0a\x01\x74\x1a\x02\x10\x01",
+        b"\xa2\x06\x09\x0a\x07\x1a\x05\x0a\x01\x74\x10\x01",
+    ),
+    (
+        b"\xa2\x06\x04\x1a\x02\x50\x02",
+        b"\xa2\x06\x04\x1a\x02\x50\x01",
+    ),
+    (b"\xa2\x06\x04\x1a\x02\x50\x00", b"\xa2\x06\x02\x1a\x00"),
+    (b"\xa2\x06\x04\x0a\x02\x12\x00", b"\xa2\x06\x02\x0a\x00"),
+    (
+        b"\xa2\x06\x04\x22\x02\x1a\x00",
+        b"\xa2\x06\x04\x22\x02\x1a\x00",
+    ),
+    (
+        b"\xaa\x06\x06\x0a\x04\x12\x02\x08\x01",
+        b"\xaa\x06\x06\x0a\x04\x12\x02\x08\x01",
+    ),
+    (
+        b"\xaa\x06\x02\x0a\x00\xaa\x06\x02\x0a\x00",
+        b"\xaa\x06\x04\x0a\x00\x0a\x00",
+    ),
+    (
+        b"\xa2\x06\x0c\x1a\x0a\x08\xff\xff\xff\xff\xff\xff\xff\xff\x7f",
+        b"\xa2\x06\x0c\x1a\x0a\x08\xff\xff\xff\xff\xff\xff\xff\xff\x7f",
+    ),
+    (
+        b"\xa2\x06\x0d\x1a\x0b\x08\xff\xff\xff\xff\xff\xff\xff\xff\xff\x7f",
+        b"\xa2\x06\x0d\x1a\x0b\x08\xff\xff\xff\xff\xff\xff\xff\xff\xff\x01",
+    ),
+    (b"\xa2\x06\x04\x22\x02\x78\x01", b"\xa2\x06\x02\x22\x00"),
+    (b"\xaa\x06\x02\x0a\x00\xa2\x06\x00", b"\xa2\x06\x00"),
+    (b"\xa2\x06\x02\x22\x00\xaa\x06\x00", b"\xaa\x06\x00"),
+];
 
-/// The input is no answer, for this fault.
-fn faults(rt: &impl Abort, alloc: Global, input: &[u8], kind: WireKind, at: usize) {
-    match decode_from(alloc, input) {
-        Err(DecodeFault::Wire(fault)) => {
-            assert_eq!(rt; fault, WireFault { kind, at });
-        }
-        _ => assert!(rt; false),
-    }
-}
+/// Bytes that spell no answer, with their first faults.
+const FAULTS: [(&[u8], WireKind, usize); 33] = [
+    (
+        b"\x08\xff\xff\xff\xff\xff\xff\xff\xff\xff\xff\x01",
+        WireKind::LongVarint,
+        1,
+    ),
+    (b"\x00\x00", WireKind::FieldZero, 0),
+    (b"\x0b", WireKind::WireType, 0),
+    (b"\x0c", WireKind::WireType, 0),
+    (b"\x0e", WireKind::WireType, 0),
+    (b"\x0f", WireKind::WireType, 0),
+    (b"\x80\x80\x80\x80\x10\x00", WireKind::TagTooLarge, 0),
+    (b"\xaa\x06\x05\x0a\x03\x0a\x01\xff", WireKind::NotUtf8, 7),
+    (b"", WireKind::NoMember, 0),
+    (b"\xaa", WireKind::Truncated, 0),
+    (
+        b"\xaa\x06\x1c\x0a\x1a\x0a\x01\x6e\x1a\x15\x69\x6f\x2e\x73\x74\x61\x74\x65\x66\x75\x6e\x2e\x74\x79\x70\x65\x73\x2f\x69\x6e",
+        WireKind::Truncated,
+        2,
+    ),
+    (b"\x08", WireKind::Truncated, 1),
+    (b"\x08\x80", WireKind::Truncated, 1),
+    (b"\x09\x01\x02", WireKind::Truncated, 1),
+    (b"\x0d\x01\x02\x03", WireKind::Truncated, 1),
+    (b"\xa2\x06", WireKind::Truncated, 2),
+    (b"\xa2\x06\x80", WireKind::Truncated, 2),
+    (b"\xa2\x06\x01", WireKind::Truncated, 2),
+    (
+        b"\xa2\x06\xff\xff\xff\xff\xff\xff\xff\xff\xff\xff",
+        WireKind::LongVarint,
+        2,
+    ),
+    (b"\xa2\x06\x02\x00\x00", WireKind::FieldZero, 3),
+    (b"\xa2\x06\x01\x0b", WireKind::WireType, 3),
+    (b"\xa2\x06\x01\x0a", WireKind::Truncated, 4),
+    (b"\xa2\x06\x02\x0a\x01\xa2\x06\x00", WireKind::Truncated, 4),
+    (b"\xa2\x06\x03\x0a\x01\x08", WireKind::Truncated, 6),
+    (
+        b"\xa2\x06\x08\x0a\x06\x12\x01\xff\x12\x01\x62",
+        WireKind::NotUtf8,
+        7,
+    ),
+    (
+        b"\xa2\x06\x05\x0a\x03\x12\x01\xff\xaa\x06\x00",
+        WireKind::NotUtf8,
+        7,
+    ),
+    (b"\x08\x05", WireKind::NoMember, 2),
+    (
+        b"\xff\xff\xff\xff\xff\xff\xff\xff\xff\xff",
+        WireKind::LongVarint,
+        0,
+    ),
+    (
+        b"\xff\xff\xff\xff\xff\xff\xff\xff\xff",
+        WireKind::Truncated,
+        0,
+    ),
+    (
+        b"\x80\x80\x80\x80\x80\x80\x80\x80\x80\x02",
+        WireKind::FieldZero,
+        0,
+    ),
+    (
+        b"\xaa\x06\x05\x0a\x03\x0a\x01\xff\x08",
+        WireKind::NotUtf8,
+        7,
+    ),
+    (b"\xa2\x06\x05\x22", WireKind::Truncated, 2),
+    (b"\x80\x80\x80\x80\x10", WireKind::TagTooLarge, 0),
+];
 
 #[test]
 fn spelled_again(rt: HostRuntime) -> Result<(), Fail> {
     let alloc = rt.alloc();
-    answers(&rt, alloc, b"\xa2\x06\x00", b"\xa2\x06\x00")?;
-    // the last member counts, and what the first one had is cleared
-    answers(
-        &rt,
-        alloc,
-        b"\xa2\x06\x02\x22\x00\xaa\x06\x00\xa2\x06\x00",
-        b"\xa2\x06\x00",
-    )?;
-    // one member twice is merged
-    answers(
-        &rt,
-        alloc,
-        b"\xa2\x06\x02\x22\x00\xa2\x06\x02\x22\x00",
-        b"\xa2\x06\x04\x22\x00\x22\x00",
-    )?;
-    // a negative delay
-    answers(
-        &rt,
-        alloc,
-        b"\xa2\x06\x0d\x1a\x0b\x08\xff\xff\xff\xff\xff\xff\xff\xff\xff\x01",
-        b"\xa2\x06\x0d\x1a\x0b\x08\xff\xff\xff\xff\xff\xff\xff\xff\xff\x01",
-    )?;
-    // a missing value
-    answers(
-        &rt,
-        alloc,
-        b"\xaa\x06\x1c\x0a\x1a\x0a\x01n\x1a\x15io.statefun.types/int",
-        b"\xaa\x06\x1c\x0a\x1a\x0a\x01n\x1a\x15io.statefun.types/int",
-    )
+    for (input, want) in &ANSWERS {
+        let value = decode_from(alloc, input).ok().ok_or("no answer")?;
+        let bytes = encode_from(alloc, &value)?;
+        assert_eq!(rt; bytes.as_slice(), *want);
+        assert_eq!(rt; size_from(&value), want.len() as u64);
+    }
+    Ok(())
 }
 
 #[test]
 fn first_faults(rt: HostRuntime) {
     let alloc = rt.alloc();
-    faults(
-        &rt,
-        alloc,
-        b"\x08\xff\xff\xff\xff\xff\xff\xff\xff\xff\xff\x01",
-        WireKind::LongVarint,
-        1,
-    );
-    faults(&rt, alloc, b"\x00\x00", WireKind::FieldZero, 0);
-    faults(&rt, alloc, b"\x0b", WireKind::WireType, 0);
-    faults(
-        &rt,
-        alloc,
-        b"\x80\x80\x80\x80\x10\x00",
-        WireKind::TagTooLarge,
-        0,
-    );
-    faults(
-        &rt,
-        alloc,
-        b"\xaa\x06\x05\x0a\x03\x0a\x01\xff",
-        WireKind::NotUtf8,
-        7,
-    );
-    faults(&rt, alloc, b"", WireKind::NoMember, 0);
-    faults(&rt, alloc, b"\xaa", WireKind::Truncated, 0);
-    faults(
-        &rt,
-        alloc,
-        b"\xaa\x06\x1c\x0a\x1a\x0a\x01n\x1a\x15io.statefun.types/in",
-        WireKind::Truncated,
-        2,
-    );
+    for (input, kind, at) in &FAULTS {
+        match decode_from(alloc, input) {
+            Err(DecodeFault::Wire(fault)) => {
+                assert_eq!(rt;
+                    fault,
+                    WireFault {
+                        kind: *kind,
+                        at: *at
+                    }
+                );
+            }
+            _ => assert!(rt; false),
+        }
+    }
+}
+
+/// The input in two pieces, cut at a place.
+fn cut_at(alloc: Global, input: &[u8], at: usize) -> Result<FromFunction, DecodeFault>
+    requires { at ≤ length input.now }
+{
+    let (front, back) = input.split_at(at);
+    let mut feeder = Feeder::new(alloc, input.len() as u64);
+    feeder.feed(front)?;
+    feeder.feed(back)?;
+    feeder.finish_from()
+}
+
+#[test]
+fn every_cut(rt: HostRuntime) -> Result<(), Fail> {
+    let alloc = rt.alloc();
+    for (input, _) in &ANSWERS {
+        let whole = decode_from(alloc, input).ok().ok_or("no answer")?;
+        for at in 0..input.len() {
+            let value = cut_at(alloc, input, at).ok().ok_or("no answer")?;
+            assert!(rt; value == whole);
+        }
+    }
+    for (input, kind, at) in &FAULTS {
+        for cut in 0..input.len() {
+            match cut_at(alloc, input, cut) {
+                Err(DecodeFault::Wire(fault)) => {
+                    assert_eq!(rt;
+                        fault,
+                        WireFault {
+                            kind: *kind,
+                            at: *at
+                        }
+                    );
+                }
+                _ => assert!(rt; false),
+            }
+        }
+    }
+    Ok(())
+}
+
+#[test]
+fn pieces(rt: HostRuntime) -> Result<(), Fail> {
+    let alloc = rt.alloc();
+    let mut bytes = Vec::new(alloc);
+    for byte in VALID {
+        let mut piece = Bytes::new(alloc);
+        piece.push(*byte)?;
+        bytes.push(piece)?;
+    }
+    let whole = decode_from(alloc, VALID).ok().ok_or("no answer")?;
+    let value = decode_pieces_from(alloc, 64, &bytes)
+        .ok()
+        .ok_or("no answer")?;
+    assert!(rt; value == whole);
+    match decode_pieces_from(alloc, 63, &bytes) {
+        Err(DecodeFault::Wire(fault)) => {
+            assert_eq!(rt;
+                fault,
+                WireFault {
+                    kind: WireKind::OverLimit,
+                    at: 63
+                }
+            );
+        }
+        _ => assert!(rt; false),
+    }
+    Ok(())
+}
+
+/// The request of one letter with the string `a`, for the address whose id is `a`.
+const REQUEST: &[u8] =
+    b"\xa2\x06\x40\x0a\x19\x0a\x0bcom.example\x12\x07greeter\x1a\x01a\x1a\x23\x12\x21\x0a\x18io.statefun.types/string\x10\x01\x1a\x03\x0a\x01a";
+
+#[test]
+fn requests(rt: HostRuntime) -> Result<(), Fail> {
+    let alloc = rt.alloc();
+    let request = decode_to(alloc, REQUEST).ok().ok_or("no request")?;
+    assert_eq!(rt; encode_to(alloc, &request)?.as_slice(), REQUEST);
+    assert_eq!(rt; size_to(&request), 67);
+    let mut feeder = Feeder::new(alloc, 67);
+    feeder.feed(REQUEST).ok().ok_or("too long")?;
+    let again = feeder.finish_to().ok().ok_or("no request")?;
+    assert!(rt; again == request);
+    let letter = Letter {
+        sender: Sender::Split(0),
+        target: Address {
+            kind: TypeName {
+                namespace: Text::copy_of(alloc, "com.example")?,
+                name: Text::copy_of(alloc, "greeter")?,
+            },
+            id: Text::copy_of(alloc, "a")?,
+        },
+        argument: text_value(alloc, &Text::copy_of(alloc, "a")?)?,
+    };
+    assert_eq!(rt; size_letter(&letter), 37);
+    Ok(())
 }
 
 const VALID: &[u8] =

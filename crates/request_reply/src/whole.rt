@@ -5,6 +5,7 @@ ghost use Rattle.request_reply.specs.declared.answer.FromFunction.TheVariants.{R
 ghost use Rattle.proto_wire.specs.Reads.{Gives};
 ghost use Rattle.proto_wire.specs.Message.{capped};
 ghost use Rattle.request_reply.specs.Oneofs.{no_request, to_rows, no_answer, from_rows};
+ghost use Rattle.request_reply.specs.Letters.{letter_record};
 ghost use Rattle.request_reply.specs.Spelling.{to_spelling, from_spelling, to_value, from_value};
 
 use crate::{
@@ -12,9 +13,11 @@ use crate::{
     ToFunction,
 };
 use proto_wire::{
-    Bytes, DecodeFault, Mem, Message, Record, joined, member_size, merge, no_member, with_member,
+    Bytes, DecodeFault, Mem, Message, Record, joined, member_size, merge, no_member, record_size,
+    with_member,
 };
 use std::alloc::Global;
+use typed_values::{Letter, Sender};
 
 /// A request while it is read: the member that stands.
 #[derive(Drop)]
@@ -210,4 +213,16 @@ pub fn decode_from(alloc: Global, bytes: &[u8]) -> Result<FromFunction, DecodeFa
         Some(answer) => Ok(answer),
         None => Err(no_member(bytes)),
     }
+}
+
+/// The length of a letter's record in a batch, or `u64::MAX` where it is greater. Takes no memory.
+#[tactic(auto, unfolding(crate::specs::Letters::letter_record, crate::specs::RequestTables::batch_invocation_rows, proto_wire::specs::Message::spelled_message))]
+pub fn size_letter(letter: &Letter) -> u64
+    ensures { result ≡ capped (length (letter_record letter.now)) }
+{
+    let caller = match &letter.sender {
+        Sender::Function(address) => member_size(1, address),
+        Sender::Split(_) => 0,
+    };
+    record_size(3, caller.saturating_add(member_size(2, &letter.argument)))
 }
