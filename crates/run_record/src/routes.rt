@@ -1,5 +1,5 @@
 //! Where a job's records and requests go.
-ghost use Rattle.std.specs.Prelude.{◌≡◌, ◌<◌, IsTrue, IfOk, Some, find, map};
+ghost use Rattle.std.specs.Prelude.{◌≡◌, ◌<◌, ◌≤◌, IsTrue, IfOk, Some, find, map};
 ghost use Rattle.std.specs.Option.{option_copied};
 ghost use Rattle.run_record.specs.Routing.{is_routable, is_exact, is_wide, endpoint_of, splits_in, ingress_in, targets_of, filled, url_of, letter_of, letters_of};
 
@@ -43,6 +43,7 @@ impl Routes {
     pub fn module(&self) -> &Module
         ensures value { result.now ≡ self.now }
         ensures routable { IsTrue (is_routable self.now) }
+        ensures splits { (0 < splits_in self.now.ingresses) × (splits_in self.now.ingresses ≤ 32) }
     {
         &self.module
     }

@@ -5,7 +5,7 @@ ghost use Rattle.sf_outside.specs.Log.{empty_record, record_rows, front_of, fram
 use crate::IngressRecord;
 use proto_wire::{
     Bytes, DecodeFault, Mem, Message, OutOfMemory, Record, Text, WireFault, WireKind, bytes_size,
-    merge, varint_in, with_bytes,
+    merge, varint_in, with_bytes, with_text,
 };
 use std::alloc::Global;
 
@@ -40,7 +40,7 @@ impl Message for IngressRecord {
 
     #[tactic(auto, unfolding(crate::specs::Log::record_rows))]
     fn put(&self, into: Bytes) -> Mem<Bytes> {
-        let into = with_bytes(into, 1, self.key.as_bytes())?;
+        let into = with_text(into, 1, &self.key)?;
         with_bytes(into, 2, self.value.as_slice())
     }
 }

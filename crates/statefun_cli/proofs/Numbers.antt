@@ -1,5 +1,5 @@
 -- What `parse` says of a number of turns.
-use Rattle.std.proofs.Common.{◌≡◌, ◌≢◌, ℕ, zero, suc, ◌<◌, ◌≤◌, ◌^◌, List, [], ◌∷◌, length, get_or, Bool, true, false, cond, eqb, ltb, leb, not, ◌&&◌, refl, sym, ap, ◌∙◌, subst, arith, rules, tests, Option, Some, None, Result, Ok, Err, ne_eqb, if◌then◌else◌}
+use Rattle.std.proofs.Common.{◌≡◌, ℕ, ◌<◌, ◌≤◌, ◌^◌, List, [], ◌∷◌, length, get_or, Bool, true, false, eqb, not, ◌&&◌, refl, arith, rules, Option, None, Result, Ok, Err, ne_eqb, if◌then◌else◌}
 use Rattle.std.specs.Char.{is_ascii_digit}
 use Rattle.std.specs.Result.{OkIff}
 use Rattle.std.specs.Str.{all_ascii_digits}

@@ -1,11 +1,9 @@
 -- Where things go in the module that the words make.
-use Rattle.std.proofs.Common.{◌≡◌, ℕ, List, [], ◌∷◌, true, refl, sym, ap, ◌∙◌, subst, Some, None, Result, Ok, Err}
+use Rattle.std.proofs.Common.{◌≡◌, ℕ, List, [], ◌∷◌, true, refl, Some}
 use Rattle.std.specs.Cmp.Lexicographic.{bytes_decides}
 use Rattle.typed_values.specs.declared.name.TypeName.{TypeName}
-use Rattle.typed_values.specs.declared.letter.Letter.{Letter}
-use Rattle.typed_values.specs.Sameness.{same_bytes, same_name}
+use Rattle.typed_values.specs.Sameness.{same_bytes}
 use Rattle.sf_outside.specs.declared.ingress.IngressRecord.{IngressRecord}
-use Rattle.run_record.specs.declared.module.Module.{Module}
 use Rattle.run_record.specs.declared.module.Endpoint.{Endpoint}
 use Rattle.run_record.specs.Routing.{is_routable, splits_in, ingress_of, endpoint_of, url_of, filled, targets_of, letter_of, letters_of}
 use Rattle.statefun_cli.specs.Words.{plain_module}

@@ -1,5 +1,5 @@
 -- The words `run TYPE URL VALUETYPE EGRESS --turns N`, and what they ask for.
-use Rattle.std.specs.Prelude.{◌≡◌, ℕ, ◌-◌, ◌^◌, nat_eq, nat_lt, nat_le, codes, List, [], ◌∷◌, Bool, false, not, ◌&&◌, ◌||◌, ◌==◌, length, drop, slice_get, slice_index, if◌then◌else◌, Option, Some, None, option_and_then, Result, Ok, Err}
+use Rattle.std.specs.Prelude.{◌≡◌, ℕ, ◌+◌, ◌<◌, ◌≤◌, nat_eq, nat_lt, nat_le, codes, List, [], ◌∷◌, ◌++◌, Bool, false, not, ◌&&◌, ◌||◌, ◌==◌, length, take, drop, slice_get, slice_index, if◌then◌else◌, Option, Some, None, option_and_then, Result, Ok, Err}
 use Rattle.std.specs.Option.{option_map_or, ok_or}
 use Rattle.std.specs.List.{starts_with}
 use Rattle.std.specs.Str.{all_ascii_digits}
@@ -41,13 +41,17 @@ unfoldable pub read_at : {A : Type 0} → (List ℕ → Option A) → List (List
 read_at read words place = ok_or (option_and_then read (slice_get words place)) place
 
 infixl 10 ◌>>=◌
-abbrev ◌>>=◌ : {A B : Type 0} → Result A ℕ → (A → Result B ℕ) → Result B ℕ
+abbrev pub ◌>>=◌ : {A B : Type 0} → Result A ℕ → (A → Result B ℕ) → Result B ℕ
 Ok x >>= f = f x
 Err place >>= f = Err place
 
--- no word stands at a place or behind it
+-- no word stands at a place
+abbrev pub ended_at : {A : Type 0} → A → ℕ → Option (List ℕ) → Result A ℕ
+ended_at x place None = Ok x
+ended_at x place (Some word) = Err place
+
 abbrev pub ending_at : {A : Type 0} → List (List ℕ) → ℕ → A → Result A ℕ
-ending_at words place x = if nat_le (length words) place then Ok x else Err place
+ending_at words place x = ended_at x place (slice_get words place)
 
 abbrev pub is_at : List (List ℕ) → ℕ → List ℕ → Bool
 is_at words place word = option_map_or (same_bytes word) (slice_get words place) false
@@ -93,6 +97,22 @@ pub record IsPlain (m : Module) : Type 0 where
   pub value_type : List ℕ
   pub egress : TypeName
   pub is : m ≡ plain_module kind url value_type egress
+
+-- ---- where words are wrong
+
+-- right words begin with these
+abbrev pub BeginRight : List (List ℕ) → Type 0
+BeginRight words = (rest : List (List ℕ)) × (plan : Plan) × (plan_of (words ++ rest) ≡ Ok plan)
+
+-- the first word with which words no longer begin right words, or their number where something is missing
+pub record IsFirstWrong (words : List (List ℕ)) (place : ℕ) : Type 0 where
+  pub within : place ≤ length words
+  pub before : BeginRight (take place words)
+  pub here : place < length words → ¬ BeginRight (take (place + 1) words)
+
+abbrev pub IsWrongFrom : List (List ℕ) → WordsFault → Type 0
+IsWrongFrom words (Usage place) = IsFirstWrong words place
+IsWrongFrom words OutOfMemory = Unit {0}
 
 -- what a fault says of words that are read so: where they are wrong
 abbrev pub IsWrong : {A : Type 0} → Result A ℕ → WordsFault → Type 0

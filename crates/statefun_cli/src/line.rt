@@ -42,7 +42,12 @@ impl PlainEnd {
                 put_decimal(alloc, into, turns)?;
                 put_count(alloc, into, b" taken ", *taken)
             }
-            PlainEnd::EndpointFailed { address, reasons } => put_failed(alloc, into, address, reasons.as_slice()),
+            PlainEnd::EndpointFailed { address, reasons } => put_failed(
+                alloc,
+                into,
+                address,
+                reasons.as_slice(),
+            ),
             PlainEnd::IngressFault => into.append(b"ingress fault\n"),
             PlainEnd::LinkFault => into.append(b"link fault\n"),
             PlainEnd::SinkFault => Ok(()),

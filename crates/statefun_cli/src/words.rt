@@ -4,7 +4,7 @@ ghost use Rattle.std.specs.Option.{option_copied};
 ghost use Rattle.std.specs.String.{string_bytes};
 ghost use Rattle.typed_values.specs.Names.{name_in};
 ghost use Rattle.run_record.specs.Routing.{is_routable};
-ghost use Rattle.statefun_cli.specs.Words.{command_in, url_in, value_type_in, turns_in, turns_within, turns_of, joined_turns_in, read_at, plain_module, plan_of, is_at, IsPlain, IsWrong, Reads};
+ghost use Rattle.statefun_cli.specs.Words.{command_in, url_in, value_type_in, turns_in, turns_within, turns_of, joined_turns_in, read_at, plain_module, plan_of, is_at, IsPlain, IsWrong, IsWrongFrom, Reads};
 ghost use Rattle.statefun_cli.specs.declared.words.WordsFault.TheVariants.{Usage, OutOfMemory as WantsMemory};
 
 use proto_wire::{List, Mem, OutOfMemory, Text, TryClone};
@@ -41,8 +41,18 @@ impl From<OutOfMemory> for WordsFault {
 /// TYPE and EGRESS are names, URL begins with `http://`, VALUETYPE is neither empty nor `--`, and N is a number of
 /// turns. `Usage` exactly at wrong words, with the first word with which they no longer begin right words, or their
 /// number where something is missing.
-#[tactic(auto, unfolding(crate::specs::Words::plan_of))]
 pub fn read_words(alloc: Global, words: &[String]) -> Result<Plan, WordsFault>
+    ensures reads { Reads (plan_of (map string_bytes words.now)) result }
+    ensures first { IfErr result (λ fault. IsWrongFrom (map string_bytes words.now) fault) }
+    ensures plain { IfOk result (λ plan. IsPlain plan.module) }
+    ensures routable { IfOk result (λ plan. IsTrue (is_routable plan.module)) }
+    ensures turns { IfOk result (λ plan. (1 ≤ plan.turns) × (plan.turns ≤ 1000000000)) }
+{
+    plan_of(alloc, words)
+}
+
+#[tactic(auto, unfolding(crate::specs::Words::plan_of))]
+fn plan_of(alloc: Global, words: &[String]) -> Result<Plan, WordsFault>
     ensures reads { Reads (plan_of (map string_bytes words.now)) result }
     ensures plain { IfOk result (λ plan. IsPlain plan.module) }
     ensures routable { IfOk result (λ plan. IsTrue (is_routable plan.module)) }
@@ -59,7 +69,13 @@ pub fn read_words(alloc: Global, words: &[String]) -> Result<Plan, WordsFault>
 }
 
 /// The module that a plan is made with.
-fn plain_module(alloc: Global, kind: TypeName, url: &str, value_type: &str, egress: TypeName) -> Mem<Module>
+fn plain_module(
+    alloc: Global,
+    kind: TypeName,
+    url: &str,
+    value_type: &str,
+    egress: TypeName,
+) -> Mem<Module>
     ensures { IfOk result (λ made. made ≡ plain_module kind url.now value_type.now egress) }
 {
     let mut endpoints = List::new(alloc);
@@ -77,10 +93,19 @@ fn plain_module(alloc: Global, kind: TypeName, url: &str, value_type: &str, egre
     let mut targets = List::new(alloc);
     targets.push(kind.try_clone(alloc)?)?;
     let mut ingresses = List::new(alloc);
-    ingresses.push(IngressSpec { id: kind, splits: 1, value_type: Text::copy_of(alloc, value_type)?, targets })?;
+    ingresses.push(IngressSpec {
+        id: kind,
+        splits: 1,
+        value_type: Text::copy_of(alloc, value_type)?,
+        targets,
+    })?;
     let mut egresses = List::new(alloc);
     egresses.push(egress)?;
-    Ok(Module { endpoints, ingresses, egresses })
+    Ok(Module {
+        endpoints,
+        ingresses,
+        egresses,
+    })
 }
 
 /// The fault of words that are wrong from a place on.
@@ -157,10 +182,16 @@ fn turns_of(words: &[String]) -> Result<u64, WordsFault>
 {
     if is_turns_at(words) {
         let turns = turns_at(words)?;
-        if words.len() <= 7 { Ok(turns) } else { Err(usage(7)) }
+        match word_at(words, 7) {
+            None => Ok(turns),
+            Some(_) => Err(usage(7)),
+        }
     } else {
         let turns = joined_turns_at(words)?;
-        if words.len() <= 6 { Ok(turns) } else { Err(usage(6)) }
+        match word_at(words, 6) {
+            None => Ok(turns),
+            Some(_) => Err(usage(6)),
+        }
     }
 }
 
@@ -231,7 +262,11 @@ fn turns_within(turns: u64) -> Option<u64>
     ensures value { result ≡ turns_within turns }
     ensures bound { IfSome result (λ turns. (1 ≤ turns) × (turns ≤ 1000000000)) }
 {
-    if 1 <= turns && turns <= MOST_TURNS { Some(turns) } else { None }
+    if 1 <= turns && turns <= MOST_TURNS {
+        Some(turns)
+    } else {
+        None
+    }
 }
 
 /// `--turns=N` as one word.

@@ -4,7 +4,6 @@ use Rattle.std.specs.Str.Pattern.{RFindsChar, SplitsAroundMatch}
 use Rattle.std.proofs.lemmas.Str.Pattern.{NoCharPasses-char, drop_at_char}
 use Rattle.typed_values.specs.Names.{round_last_slash}
 
-
 none-at : (xs : List ℕ) → ((i : ℕ) → i < length xs → get_or xs i 0 ≢ 47) → round_last_slash xs ≡ None
 none-at [] h = refl
 none-at (x ∷ xs) h = let e = none-at xs (λ i l. h (suc i) (omega arith)) in let f = ne_eqb x 47 (h 0 (omega arith)) in rw (e, f) refl

@@ -1,5 +1,5 @@
-use Rattle.statefun_cli.proofs.PlainJob.{plain-routable}
+use Rattle.statefun_cli.proofs.FirstWrong.{first-wrong}
 use Rattle.statefun_cli.proofs.words.read_words.Goals as goal
 
-pub returns-clause-routable : goal.returns-clause-routable
-returns-clause-routable c = rw c.in_ok-module.ensures (plain-routable _ _ _ _)
+pub returns-clause-first : goal.returns-clause-first
+returns-clause-first c = first-wrong _ c.plan_of.result c.plan_of.ensures.reads
