@@ -100,7 +100,12 @@ fn take(
     match key {
         Some(key) => {
             let found = record(alloc, key)?;
-            machine.apply(alloc, &entry(1, 0, split, Step::Take(split)), Some(&found), routes)
+            machine.apply(
+                alloc,
+                &entry(1, 0, split, Step::Take(split)),
+                Some(&found),
+                routes,
+            )
         }
         None => machine.apply(alloc, &entry(1, 0, split, Step::Take(split)), None, routes),
     }
@@ -210,7 +215,7 @@ fn equal_keys_stand_list_by_list(rt: HostRuntime) -> Result<(), Fail> {
             order.push(*split)?;
         }
     }
-    assert_eq!(rt; order.as_slice(), &[0u32, 3, 4, 1, 5, 2]);
+    assert_eq!(rt; order.as_slice(), [0u32, 3, 4, 1, 5, 2].as_slice());
     Ok(())
 }
 
