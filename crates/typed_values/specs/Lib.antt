@@ -5,8 +5,5 @@ pub mod Again
 pub mod Stored
 pub mod Spelling
 pub mod StoredAgain
-<<<<<<< HEAD
 pub mod Wrappers
 pub mod WrappersAgain
-=======
->>>>>>> h_machine
