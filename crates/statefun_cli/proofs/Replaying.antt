@@ -98,14 +98,17 @@ module _ (kind : TypeName) (url value_type : List ℕ) (egress : TypeName) where
   take_stands : (lists : Lists) (st : State) (work : Work) (turn : ℕ) (found : IngressRecord) → Stands kind st work → record_at lists 0 work.taken ≡ Some found → (next : State) × (take_step job lists 0 st ≡ Some next) × Stands kind next (work_read job turn (Some found) work)
   unfolding took
   take_stands lists st work turn found so there =
-      let is : IsTaken job lists 0 st (took job 0 found st) = record { inside = lit< tt; found = found; at_its_place = ap (record_at lists 0) so.taken ∙ there; leaves = refl } in
-      (took job 0 found st, take_step-is is, record {
-        taken = ap (λ (n : ℕ). n + 1) so.taken;
-        mail = λ sender target. posted_all-waiting st.mail (letters_of job 0 found) sender target ∙ ap (λ (l : List TypedValue). l ++ waiting_of sender target (letters_of job 0 found)) (so.mail sender target) ∙ sym (waiting-append sender target work.waiting (letters_of job 0 found));
-        cells = so.cells;
-        seen = so.seen;
-        kinds = AllFor-append kind work.waiting (letters_of job 0 found) so.kinds (subst (AllFor kind) (sym (plain-letters kind url value_type egress found)) (refl, tt));
-      })
+      let is : IsTaken job lists 0 st (took job 0 found st) = record { inside = lit< tt; found = found; at_its_place = ap (record_at lists 0) so.taken ∙ there; leaves = refl } in (
+        took job 0 found st,
+        take_step-is is,
+        record {
+          taken = ap (λ (n : ℕ). n + 1) so.taken;
+          mail = λ sender target. posted_all-waiting st.mail (letters_of job 0 found) sender target ∙ ap (λ (l : List TypedValue). l ++ waiting_of sender target (letters_of job 0 found)) (so.mail sender target) ∙ sym (waiting-append sender target work.waiting (letters_of job 0 found));
+          cells = so.cells;
+          seen = so.seen;
+          kinds = AllFor-append kind work.waiting (letters_of job 0 found) so.kinds (subst (AllFor kind) (sym (plain-letters kind url value_type egress found)) (refl, tt));
+        },
+      )
 
   -- the request of the letter in front is that of the machine
   pub asked_is : (st : State) (work : Work) (letter : Letter) (others : List Letter) → Stands kind st work → work.waiting ≡ letter ∷ others → length (to_spelling (request_for letter)) < 2 ^ 64 → request_of job st letter.target 0 (letter.sender ∷ []) ≡ Some (request_for letter)
@@ -114,7 +117,7 @@ module _ (kind : TypeName) (url value_type : List ℕ) (egress : TypeName) where
       let for_kind : letter.target.kind ≡ kind = (subst (AllFor kind) front so.kinds).0 in
       let endpoint = ap (endpoint_of job) for_kind ∙ plain-endpoint kind url value_type egress in
       let mail : st.mail letter.sender letter.target ≡ letter.argument ∷ waiting_of letter.sender letter.target others =
-        so.mail letter.sender letter.target ∙ ap (waiting_of letter.sender letter.target) front ∙ waiting-front letter others in
+      so.mail letter.sender letter.target ∙ ap (waiting_of letter.sender letter.target) front ∙ waiting-front letter others in
       let letters = picked-front (λ sender. st.mail sender letter.target) letter (waiting_of letter.sender letter.target others) mail in
       let within : leb (length (to_spelling (request_for letter))) 18446744073709551615 ≡ true = le-leb _ _ (omega (arith, short)) in
       rw (endpoint, letters, so.cells letter.target, within) refl
@@ -131,16 +134,19 @@ module _ (kind : TypeName) (url value_type : List ℕ) (egress : TypeName) where
   unfolding served
   batch_stands st work turn letter others answer response entries so front short accepted =
       let reply : Reply = record { call = call_in turn; address = letter.target; moment = 0; picks = letter.sender ∷ []; answer = answer } in
-      let is : IsServed job reply st (served reply response st) = record { in_time = omega (arith, so.seen letter.target); request = request_for letter; asked = asked_is st work letter others so front short; response = response; accepted = accepted; leaves = refl } in
-      (served reply response st, batch_step-is is, record {
-        taken = so.taken;
-        mail = λ sender target.
-          ap (λ (messages : List OutgoingInvocation). posted_all (unpicked letter.target (letter.sender ∷ []) st.mail) (letters_from letter.target messages) sender target) (verdict_silent job.egresses answer response accepted)
-          ∙ unpicked-front st.mail letter others (λ s t. so.mail s t ∙ ap (waiting_of s t) front) sender target;
-        cells = so.cells;
-        seen = λ address. seen_none (same_address letter.target address) (st.seen address) (so.seen address);
-        kinds = (subst (AllFor kind) front so.kinds).1;
-      })
+      let is : IsServed job reply st (served reply response st) = record { in_time = omega (arith, so.seen letter.target); request = request_for letter; asked = asked_is st work letter others so front short; response = response; accepted = accepted; leaves = refl } in (
+        served reply response st,
+        batch_step-is is,
+        record {
+          taken = so.taken;
+          mail = λ sender target.
+              ap (λ (messages : List OutgoingInvocation). posted_all (unpicked letter.target (letter.sender ∷ []) st.mail) (letters_from letter.target messages) sender target) (verdict_silent job.egresses answer response accepted)
+              ∙ unpicked-front st.mail letter others (λ s t. so.mail s t ∙ ap (waiting_of s t) front) sender target;
+          cells = so.cells;
+          seen = λ address. seen_none (same_address letter.target address) (st.seen address) (so.seen address);
+          kinds = (subst (AllFor kind) front so.kinds).1;
+        },
+      )
 
   -- ---- a turn
 
@@ -226,8 +232,8 @@ module _ (kind : TypeName) (url value_type : List ℕ) (egress : TypeName) where
       let grouped : split_of lists 0 ≡ done ++ (option_to_list heard.read ++ (records_heard later ++ rest)) = is ∙ ap (λ (l : List IngressRecord). done ++ l) (append_assoc (option_to_list heard.read) (records_heard later) rest) in
       let behind_it : split_of lists 0 ≡ (done ++ option_to_list heard.read) ++ (records_heard later ++ rest) = grouped ∙ sym (append_assoc done (option_to_list heard.read) (records_heard later ++ rest)) in
       on_replays lists first.status first (turns_from job patience (turn + 1) later) short
-        (λ s. turn_replays lists patience turn heard work (read_there lists work.taken done heard.read (records_heard later ++ rest) n grouped) s r)
-        (λ s q. turns_replay lists patience (turn + 1) later first.work (done ++ option_to_list heard.read) rest (turned-taken job patience turn heard work ∙ omega (arith, n, length-append done (option_to_list heard.read))) behind_it s q)
+      (λ s. turn_replays lists patience turn heard work (read_there lists work.taken done heard.read (records_heard later ++ rest) n grouped) s r)
+      (λ s q. turns_replay lists patience (turn + 1) later first.work (done ++ option_to_list heard.read) rest (turned-taken job patience turn heard work ∙ omega (arith, n, length-append done (option_to_list heard.read))) behind_it s q)
 
   -- the record of turns replays
   pub run_replays : (lists : Lists) (patience : ℕ) (heard : List Heard) (rest : List IngressRecord) → split_of lists 0 ≡ records_heard heard ++ rest → AreShort (turns_of job patience heard).events → Replays lists (turns_of job patience heard).work

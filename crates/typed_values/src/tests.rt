@@ -31,7 +31,12 @@ fn addresses_and_values(rt: HostRuntime) -> Result<(), Fail> {
     let held = text_of(alloc, &again)?.ok_or("a text")?;
     assert_eq!(rt; held.as_str(), "a");
     // a value that is there and empty, and one that is not there
-    assert!(rt; decode_value(alloc, b"\x10\x01").ok().ok_or("a value")?.has_value);
+    assert!(rt;
+        decode_value(alloc, b"\x10\x01")
+            .ok()
+            .ok_or("a value")?
+            .has_value
+    );
     assert!(rt; !decode_value(alloc, b"").ok().ok_or("a value")?.has_value);
     Ok(())
 }
@@ -64,7 +69,9 @@ fn stored(rt: HostRuntime) -> Result<(), Fail> {
         argument: int_value(alloc, 3)?,
     };
     let bytes = encode_letter(alloc, &letter)?;
-    let again = decode_letter(alloc, bytes.as_slice()).ok().ok_or("a letter")?;
+    let again = decode_letter(alloc, bytes.as_slice())
+        .ok()
+        .ok_or("a letter")?;
     assert!(rt; again == letter);
     let delay = Delay {
         sender: greeter(alloc)?,
@@ -82,7 +89,9 @@ fn stored(rt: HostRuntime) -> Result<(), Fail> {
         argument: int_value(alloc, 3)?,
     };
     let bytes = encode_egress(alloc, &egress)?;
-    let again = decode_egress(alloc, bytes.as_slice()).ok().ok_or("an egress record")?;
+    let again = decode_egress(alloc, bytes.as_slice())
+        .ok()
+        .ok_or("an egress record")?;
     assert!(rt; again == egress);
     Ok(())
 }
@@ -93,8 +102,16 @@ fn faults(rt: HostRuntime) {
     for (bytes, kind, at) in [
         // no member, and a split of 2^32, also where a later record follows
         (b"".as_slice(), WireKind::NoMember, 0),
-        (b"\x08\x80\x80\x80\x80\x10".as_slice(), WireKind::OverLimit, 1),
-        (b"\x08\x80\x80\x80\x80\x10\x08\x01".as_slice(), WireKind::OverLimit, 1),
+        (
+            b"\x08\x80\x80\x80\x80\x10".as_slice(),
+            WireKind::OverLimit,
+            1,
+        ),
+        (
+            b"\x08\x80\x80\x80\x80\x10\x08\x01".as_slice(),
+            WireKind::OverLimit,
+            1,
+        ),
         (b"\x12\x03\x1a\x01\xff".as_slice(), WireKind::NotUtf8, 4),
     ] {
         match decode_sender(alloc, bytes) {
@@ -105,7 +122,13 @@ fn faults(rt: HostRuntime) {
     // a letter without a target
     match decode_letter(alloc, b"\x0a\x02\x08\x01\x1a\x00") {
         Err(DecodeFault::Wire(fault)) => {
-            assert_eq!(rt; fault, WireFault { kind: WireKind::NoMember, at: 6 });
+            assert_eq!(rt;
+                fault,
+                WireFault {
+                    kind: WireKind::NoMember,
+                    at: 6
+                }
+            );
         }
         _ => assert!(rt; false),
     }
