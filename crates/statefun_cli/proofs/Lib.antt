@@ -11,3 +11,5 @@ pub mod Runs
 pub mod Beginning
 pub mod Standing
 pub mod Replaying
+pub mod Replayed
+pub mod Backing

@@ -156,26 +156,26 @@ module _ (kind : TypeName) (url value_type : List ℕ) (egress : TypeName) where
     pub replays : replayed job lists first_state work.entries ≡ Some state
     pub stands : Stands kind state work
 
-  read_replays : (lists : Lists) (turn : ℕ) (read : Option IngressRecord) (work : Work) → ((found : IngressRecord) → read ≡ Some found → record_at lists 0 work.taken ≡ Some found) → Replays lists work → Replays lists (work_read job turn read work)
+  pub read_replays : (lists : Lists) (turn : ℕ) (read : Option IngressRecord) (work : Work) → ((found : IngressRecord) → read ≡ Some found → record_at lists 0 work.taken ≡ Some found) → Replays lists work → Replays lists (work_read job turn read work)
   read_replays lists turn None work there r = r
   read_replays lists turn (Some found) work there r =
       let t = take_stands lists r.state work turn found r.stands (there found refl) in
       record { state = t.0; replays = replayed_push_on job lists first_state r.state work.entries (take_entry turn) r.replays ∙ t.1; stands = t.2 }
 
-  judged_replays : (lists : Lists) (turn : ℕ) (read : Option IngressRecord) (letter : Letter) (others : List Letter) (answer : List ℕ) (work : Work) (events : List LinkEvent) (judged : Judged) → work.waiting ≡ letter ∷ others → length (to_spelling (request_for letter)) < 2 ^ 64 → verdict job.egresses answer ≡ judged → Replays lists work → Replays lists (judged_turn turn read letter.sender letter.target others answer work events judged).work
+  pub judged_replays : (lists : Lists) (turn : ℕ) (read : Option IngressRecord) (letter : Letter) (others : List Letter) (answer : List ℕ) (work : Work) (events : List LinkEvent) (judged : Judged) → work.waiting ≡ letter ∷ others → length (to_spelling (request_for letter)) < 2 ^ 64 → verdict job.egresses answer ≡ judged → Replays lists work → Replays lists (judged_turn turn read letter.sender letter.target others answer work events judged).work
   judged_replays lists turn read letter others answer work events (Flaw flaw) front short v r = r
   judged_replays lists turn read letter others answer work events (Accept response) front short v r =
       let entry = batch_entry turn read letter.sender letter.target answer in
       let b = batch_stands r.state work turn letter others answer response (work.entries ++ entry ∷ []) r.stands front short v in
       record { state = b.0; replays = replayed_push_on job lists first_state r.state work.entries entry r.replays ∙ b.1; stands = b.2 }
 
-  fated_replays : (lists : Lists) (turn : ℕ) (read : Option IngressRecord) (letter : Letter) (others : List Letter) (work : Work) (events : List LinkEvent) (fate : Fate) → work.waiting ≡ letter ∷ others → length (to_spelling (request_for letter)) < 2 ^ 64 → Replays lists work → Replays lists (fated_turn job turn read letter.sender letter.target others work events fate).work
+  pub fated_replays : (lists : Lists) (turn : ℕ) (read : Option IngressRecord) (letter : Letter) (others : List Letter) (work : Work) (events : List LinkEvent) (fate : Fate) → work.waiting ≡ letter ∷ others → length (to_spelling (request_for letter)) < 2 ^ 64 → Replays lists work → Replays lists (fated_turn job turn read letter.sender letter.target others work events fate).work
   fated_replays lists turn read letter others work events Open front short r = r
   fated_replays lists turn read letter others work events TooLate front short r = r
   fated_replays lists turn read letter others work events (Told (NoAnswer note)) front short r = r
   fated_replays lists turn read letter others work events (Told (Answer answer)) front short r = judged_replays lists turn read letter others answer work events (verdict job.egresses answer) front short refl r
 
-  fated-events : (turn : ℕ) (read : Option IngressRecord) (letter : Letter) (others : List Letter) (work : Work) (events : List LinkEvent) (fate : Fate) → (fated_turn job turn read letter.sender letter.target others work events fate).events ≡ events
+  pub fated-events : (turn : ℕ) (read : Option IngressRecord) (letter : Letter) (others : List Letter) (work : Work) (events : List LinkEvent) (fate : Fate) → (fated_turn job turn read letter.sender letter.target others work events fate).events ≡ events
   fated-events turn read letter others work events Open = refl
   fated-events turn read letter others work events TooLate = refl
   fated-events turn read letter others work events (Told (NoAnswer note)) = refl
@@ -185,7 +185,7 @@ module _ (kind : TypeName) (url value_type : List ℕ) (egress : TypeName) where
       by_judged (Accept response) = refl
       by_judged (Flaw flaw) = refl
 
-  started_replays : (lists : Lists) (patience turn : ℕ) (heard : Heard) (started : Bool) (work : Work) (letter : Letter) (others : List Letter) → work.waiting ≡ letter ∷ others
+  pub started_replays : (lists : Lists) (patience turn : ℕ) (heard : Heard) (started : Bool) (work : Work) (letter : Letter) (others : List Letter) → work.waiting ≡ letter ∷ others
       → AreShort (cond started (fated_turn job turn heard.read letter.sender letter.target others work (start_of job turn letter ∷ map Polled heard.polls) (fate_of patience (call_in turn) heard.polls)) (record { work = work; events = []; status = Cut })).events
       → Replays lists work → Replays lists (cond started (fated_turn job turn heard.read letter.sender letter.target others work (start_of job turn letter ∷ map Polled heard.polls) (fate_of patience (call_in turn) heard.polls)) (record { work = work; events = []; status = Cut })).work
   started_replays lists patience turn heard false work letter others front short r = r
@@ -198,7 +198,7 @@ module _ (kind : TypeName) (url value_type : List ℕ) (egress : TypeName) where
   asked_replays lists patience turn heard work [] front short r = r
   asked_replays lists patience turn heard work (letter ∷ others) front short r = started_replays lists patience turn heard heard.started work letter others front short r
 
-  turn_replays : (lists : Lists) (patience turn : ℕ) (heard : Heard) (work : Work) → ((found : IngressRecord) → heard.read ≡ Some found → record_at lists 0 work.taken ≡ Some found) → AreShort (turned job patience turn heard work).events → Replays lists work → Replays lists (turned job patience turn heard work).work
+  pub turn_replays : (lists : Lists) (patience turn : ℕ) (heard : Heard) (work : Work) → ((found : IngressRecord) → heard.read ≡ Some found → record_at lists 0 work.taken ≡ Some found) → AreShort (turned job patience turn heard work).events → Replays lists work → Replays lists (turned job patience turn heard work).work
   unfolding turned
   turn_replays lists patience turn heard work there short r =
       asked_replays lists patience turn heard (work_read job turn heard.read work) (work_read job turn heard.read work).waiting refl short (read_replays lists turn heard.read work there r)
@@ -209,13 +209,13 @@ module _ (kind : TypeName) (url value_type : List ℕ) (egress : TypeName) where
   there_at [] found rest = refl
   there_at (x ∷ done) found rest = there_at done found rest
 
-  read_there : (lists : Lists) (taken : ℕ) (done : List IngressRecord) (read : Option IngressRecord) (rest : List IngressRecord) → taken ≡ length done → split_of lists 0 ≡ done ++ (option_to_list read ++ rest) → (found : IngressRecord) → read ≡ Some found → record_at lists 0 taken ≡ Some found
+  pub read_there : (lists : Lists) (taken : ℕ) (done : List IngressRecord) (read : Option IngressRecord) (rest : List IngressRecord) → taken ≡ length done → split_of lists 0 ≡ done ++ (option_to_list read ++ rest) → (found : IngressRecord) → read ≡ Some found → record_at lists 0 taken ≡ Some found
   read_there lists taken done None rest n is found e = absurd cc
   read_there lists taken done (Some x) rest n is found e =
       let same : x ≡ found = cc in
       ap (λ (l : List IngressRecord). slice_get l taken) is ∙ ap (slice_get (done ++ x ∷ rest)) n ∙ there_at done x rest ∙ ap Some same
 
-  AreShort-split : (a b : List LinkEvent) → AreShort (a ++ b) → AreShort a × AreShort b
+  pub AreShort-split : (a b : List LinkEvent) → AreShort (a ++ b) → AreShort a × AreShort b
   AreShort-split [] b h = (tt, h)
   AreShort-split (event ∷ a) b h = let s = AreShort-split a b h.1 in ((h.0, s.0), s.1)
 

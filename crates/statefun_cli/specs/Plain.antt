@@ -6,6 +6,10 @@ use Rattle.sf_outside.specs.Told.{more, Rose}
 use Rattle.sf_outside.specs.Splits.{Lists}
 use Rattle.run_record.specs.declared.module.Module.{Module}
 use Rattle.run_record.specs.declared.entry.Entry.{Entry}
+use Rattle.typed_values.specs.declared.name.TypeName.{TypeName}
+use Rattle.typed_values.specs.declared.address.Address.{Address}
+use Rattle.run_record.specs.Machine.{State, first_state, replayed}
+use Rattle.run_record.specs.LawsOfEgress.{arguments_at}
 use Rattle.run_record.specs.Egress.{egress_of, egress_text}
 use Rattle.statefun_cli.specs.declared.end.PlainEnd.{PlainEnd}
 use Rattle.statefun_cli.specs.declared.end.PlainEnd.TheVariants.{Done, Usage, TurnsSpent, EndpointFailed, IngressFault, LinkFault, SinkFault, OutOfMemory}
@@ -52,3 +56,10 @@ pub record IsPlainRun (m : Module) (patience turns : ℕ) (lists : Option Lists)
 pub record IsUsage (word : ℕ) (written written' : Option (List ℕ)) (entries : List Entry) (end : PlainEnd) : Type 0 where
   pub none : entries ≡ []
   pub tells : IsTold written written' [] 0 (Usage word) end
+
+-- The record replays, step by step from the first state over the ingress' lists, and what each address gave to each egress is
+-- what the record's egress has of it, in order.
+pub record IsReplayed (m : Module) (lists : Lists) (entries : List Entry) : Type 0 where
+  pub state : State
+  pub replays : replayed m lists first_state entries ≡ Some state
+  pub egress : (address : Address) (name : TypeName) → state.egress address name ≡ arguments_at address name (egress_of m entries)

@@ -1,11 +1,11 @@
 //! The plain run: `statefun run` without a folder.
-ghost use Rattle.std.specs.Prelude.{◌≡◌, ◌≤◌, ℕ, [], Ok, Err, IfOk, IfErr, map, Some, IsTrue};
+ghost use Rattle.std.specs.Prelude.{◌≡◌, ◌≤◌, ℕ, [], Ok, Err, IfOk, IfErr, IfSome, map, Some, IsTrue};
 ghost use Rattle.std.specs.String.{string_bytes};
 ghost use Rattle.sf_outside.specs.Told.{Rose};
 ghost use Rattle.sf_outside.specs.Answers.{Extends};
 ghost use Rattle.run_record.specs.Routing.{splits_in, is_routable};
-ghost use Rattle.statefun_cli.specs.Words.{plan_of};
-ghost use Rattle.statefun_cli.specs.Plain.{IsTold, IsSinkCauseOf, IsPlainRun, IsUsage, counts_of};
+ghost use Rattle.statefun_cli.specs.Words.{plan_of, IsPlain};
+ghost use Rattle.statefun_cli.specs.Plain.{IsReplayed, IsTold, IsSinkCauseOf, IsPlainRun, IsUsage, counts_of};
 ghost use Rattle.statefun_cli.specs.Running.{IsNoSinkFault};
 
 use crate::drive::drive;
@@ -44,8 +44,10 @@ fn run_plan<I: Ingress, L: Link, O: Sink>(
 ) -> PlainRun
     requires routable { IsTrue (is_routable plan.module) }
     requires turns { plan.turns ≤ 1000000000 }
+    requires plain { IsPlain plan.module }
     ensures ran { IsPlainRun plan.module PATIENCE plan.turns (I.lists ingress.new) (L.journal link.old) (L.journal link.new) (L.exchanges link.new) (O.written out.old) (O.written out.new)
         (counts_of (I.faults ingress.old) (L.faults link.old) (L.losses link.old)) (counts_of (I.faults ingress.new) (L.faults link.new) (L.losses link.new)) result.entries result.end }
+    ensures replays { IfSome (I.lists ingress.new) (λ told. IsReplayed plan.module told result.entries) }
     ensures exchanges { Extends (L.exchanges link.old) (L.exchanges link.new) }
     ensures losses { L.losses link.old ≤ L.losses link.new }
     ensures sink_cause { IsSinkCauseOf (O.faults out.old) (O.faults out.new) result.end }
@@ -95,6 +97,9 @@ pub fn statefun_run<I: Ingress, L: Link, O: Sink>(
     // The record and the end are those of the turns, over what was heard in them.
     ensures ran { IfOk (plan_of (map string_bytes words.now)) (λ plan. IsPlainRun plan.module PATIENCE plan.turns (I.lists ingress.new) (L.journal link.old) (L.journal link.new) (L.exchanges link.new) (O.written out.old) (O.written out.new)
         (counts_of (I.faults ingress.old) (L.faults link.old) (L.losses link.old)) (counts_of (I.faults ingress.new) (L.faults link.new) (L.losses link.new)) result.entries result.end) }
+
+    // The record is steps of the sequential machine, over the ingress' lists where these are told.
+    ensures replays { IfOk (plan_of (map string_bytes words.now)) (λ plan. IfSome (I.lists ingress.new) (λ told. IsReplayed plan.module told result.entries)) }
 
     ensures exchanges { Extends (L.exchanges link.old) (L.exchanges link.new) }
     ensures sink_cause { IsSinkCauseOf (O.faults out.old) (O.faults out.new) result.end }

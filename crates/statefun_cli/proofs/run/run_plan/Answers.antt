@@ -1,9 +1,10 @@
-use Rattle.statefun_cli.proofs.Replaying.{run_replays}
 use Rattle.std.proofs.Common.{subst}
 use Rattle.run_record.specs.declared.module.Module.{Module}
 use Rattle.statefun_cli.specs.declared.turn.TheConstants.{PATIENCE}
+use Rattle.statefun_cli.specs.Running.{IsRun}
 use Rattle.statefun_cli.specs.Plain.{IsPlainRun, counts_of}
 use Rattle.statefun_cli.proofs.Beginning.{not_begun, told_text}
+use Rattle.statefun_cli.proofs.Replayed.{run_replayed, none_replayed}
 use Rattle.statefun_cli.proofs.run.run_plan.Goals as goal
 
 pub returns-in_default-clause-ran : goal.returns-in_default-clause-ran
@@ -21,3 +22,11 @@ returns-clause-ran g c =
       link_cause = c.drive-end.ensures.link_cause;
       lost = c.drive-end.ensures.lost;
     })
+
+pub returns-in_default-clause-replays : goal.returns-in_default-clause-replays
+returns-in_default-clause-replays g c = none_replayed c.args.plan.module _ c.out_of_memory.result.entries c.out_of_memory.ensures.entries
+
+pub returns-clause-replays : goal.returns-clause-replays
+returns-clause-replays g c =
+    run_replayed c.args.plan.module c.requires.plain PATIENCE c.args.plan.turns (g.I.Ingress.lists c.drive-end.new.ingress) (g.L.Link.journal c.args.link.now) (g.L.Link.journal c.drive-end.new.link) (g.L.Link.exchanges c.drive-end.new.link) c.drive-end.new.progress.entries c.drive-end.result
+      (subst (λ (m : Module). IsRun m PATIENCE c.args.plan.turns (g.I.Ingress.lists c.drive-end.new.ingress) (g.L.Link.journal c.args.link.now) (g.L.Link.journal c.drive-end.new.link) (g.L.Link.exchanges c.drive-end.new.link) c.drive-end.new.progress.entries c.drive-end.result) c.in-Ok.ensures c.drive-end.ensures.run)
