@@ -28,7 +28,7 @@ use Rattle.run_record.specs.Laws.{AreBacked-push}
 use Rattle.statefun_cli.specs.Turns.{Heard, Work, Status, Going, Cut, Ended, Turned, Fate, Open, TooLate, Told, call_in, own_outcome, fate_by, fate_of, take_entry, work_read, request_for, start_of, batch_entry, judged_turn, fated_turn, asked_turn, turned, go_on, turns_from, turns_of, no_work, records_heard}
 use Rattle.statefun_cli.specs.Polling.{IsOwnAnswer}
 use Rattle.statefun_cli.specs.Words.{plain_module}
-use Rattle.statefun_cli.specs.Making.{AreShort}
+use Rattle.statefun_cli.specs.Making.{AreShort, LegsBelow}
 use Rattle.statefun_cli.specs.Running.{IsProper, AreProper}
 use Rattle.statefun_cli.proofs.PlainJob.{plain-url}
 use Rattle.statefun_cli.proofs.Runs.{turned-taken}
@@ -36,16 +36,11 @@ use Rattle.statefun_cli.proofs.Replaying.{AllFor, Replays, asked_is, read_replay
 
 -- ---- the starts of a run have the numbers of its turns
 
--- each start is of a leg from this one on; below this one
+-- each start is of a leg from this one on
 abbrev pub LegsFrom : ℕ → List LinkEvent → Type 0
 LegsFrom n [] = Unit {0}
 LegsFrom n (Started call url request ∷ events) = (n ≤ call.leg) × LegsFrom n events
 LegsFrom n (Polled poll ∷ events) = LegsFrom n events
-
-abbrev pub LegsBelow : ℕ → List LinkEvent → Type 0
-LegsBelow n [] = Unit {0}
-LegsBelow n (Started call url request ∷ events) = (call.leg < n) × LegsBelow n events
-LegsBelow n (Polled poll ∷ events) = LegsBelow n events
 
 -- the only start of a call is this event
 abbrev Only : Call → LinkEvent → List LinkEvent → Type 0

@@ -13,3 +13,4 @@ pub mod Standing
 pub mod Replaying
 pub mod Replayed
 pub mod Backing
+pub mod Apart

@@ -25,6 +25,12 @@ abbrev pub AreShort : List LinkEvent → Type 0
 AreShort [] = Unit {0}
 AreShort (event ∷ events) = IsShort event × AreShort events
 
+-- each call that was started is of a leg below this one
+abbrev pub LegsBelow : ℕ → List LinkEvent → Type 0
+LegsBelow n [] = Unit {0}
+LegsBelow n (Started call url request ∷ events) = (call.leg < n) × LegsBelow n events
+LegsBelow n (Polled poll ∷ events) = LegsBelow n events
+
 -- what was heard of a turn's call is what the link did: its polls are in the journal, and an answer was exchanged
 pub record IsHeard (patience turn : ℕ) (read : Option IngressRecord) (before after : Option (List LinkEvent)) (exchanges : List Exchange) (heard : Heard) (made : Turned) : Type 0 where
   pub read_is : heard.read ≡ read

@@ -1,5 +1,5 @@
 -- A run without a folder: what it comes to, and what is written of it.
-use Rattle.std.specs.Prelude.{◌≡◌, ◌≤◌, ◌⊎◌, ℕ, List, [], ◌++◌, length, take, true, Option, Some}
+use Rattle.std.specs.Prelude.{◌≡◌, ◌≤◌, ◌+◌, ℕ, List, [], ◌∷◌, ◌++◌, length, take, true, Option, Some, None}
 use Rattle.sf_outside.specs.declared.call.LinkEvent.{LinkEvent}
 use Rattle.sf_outside.specs.declared.call.Exchange.{Exchange}
 use Rattle.sf_outside.specs.Told.{more, Rose}
@@ -10,6 +10,10 @@ use Rattle.typed_values.specs.declared.name.TypeName.{TypeName}
 use Rattle.typed_values.specs.declared.address.Address.{Address}
 use Rattle.run_record.specs.Machine.{State, first_state, replayed}
 use Rattle.run_record.specs.LawsOfEgress.{arguments_at}
+use Rattle.run_record.specs.Backed.{AreBacked}
+use Rattle.run_record.specs.declared.entry.Step.{Step}
+use Rattle.run_record.specs.declared.entry.Step.TheVariants.{Take, Batch}
+use Rattle.statefun_cli.specs.Making.{LegsBelow}
 use Rattle.run_record.specs.Egress.{egress_of, egress_text}
 use Rattle.statefun_cli.specs.declared.end.PlainEnd.{PlainEnd}
 use Rattle.statefun_cli.specs.declared.end.PlainEnd.TheVariants.{Done, Usage, TurnsSpent, EndpointFailed, IngressFault, LinkFault, SinkFault, OutOfMemory}
@@ -63,3 +67,28 @@ pub record IsReplayed (m : Module) (lists : Lists) (entries : List Entry) : Type
   pub state : State
   pub replays : replayed m lists first_state entries ≡ Some state
   pub egress : (address : Address) (name : TypeName) → state.egress address name ≡ arguments_at address name (egress_of m entries)
+
+-- the legs of a record's calls, in its order
+abbrev pub legs_of_step : Step → List ℕ
+legs_of_step (Take split) = []
+legs_of_step (Batch reply) = reply.call.leg ∷ []
+
+abbrev pub legs_of : List Entry → List ℕ
+legs_of [] = []
+legs_of (entry ∷ entries) = legs_of_step entry.step ++ legs_of entries
+
+-- numbers that ascend, from this one on
+abbrev pub Ascend : ℕ → List ℕ → Type 0
+Ascend low [] = Unit {0}
+Ascend low (n ∷ ns) = (low ≤ n) × Ascend (n + 1) ns
+
+-- Each answer of the record is one that its endpoint gave to the request of its picks; and the legs of its calls ascend, so
+-- that no two of them are the same call.
+pub record IsBackedRun (m : Module) (lists : Lists) (exchanges : List Exchange) (entries : List Entry) : Type 0 where
+  pub backed : AreBacked exchanges m lists first_state entries
+  pub apart : Ascend 1 (legs_of entries)
+
+-- where the link tells what it did, and has started no call of a leg that the run counts
+abbrev pub IfFresh : Option (List LinkEvent) → Type 0 → Type 0
+IfFresh None fact = Unit {0}
+IfFresh (Some events) fact = LegsBelow 1 events → fact

@@ -5,7 +5,7 @@ ghost use Rattle.sf_outside.specs.Told.{Rose};
 ghost use Rattle.sf_outside.specs.Answers.{Extends};
 ghost use Rattle.run_record.specs.Routing.{splits_in, is_routable};
 ghost use Rattle.statefun_cli.specs.Words.{plan_of, IsPlain};
-ghost use Rattle.statefun_cli.specs.Plain.{IsReplayed, IsTold, IsSinkCauseOf, IsPlainRun, IsUsage, counts_of};
+ghost use Rattle.statefun_cli.specs.Plain.{IfFresh, IsBackedRun, IsReplayed, IsTold, IsSinkCauseOf, IsPlainRun, IsUsage, counts_of};
 ghost use Rattle.statefun_cli.specs.Running.{IsNoSinkFault};
 
 use crate::drive::drive;
@@ -48,6 +48,7 @@ fn run_plan<I: Ingress, L: Link, O: Sink>(
     ensures ran { IsPlainRun plan.module PATIENCE plan.turns (I.lists ingress.new) (L.journal link.old) (L.journal link.new) (L.exchanges link.new) (O.written out.old) (O.written out.new)
         (counts_of (I.faults ingress.old) (L.faults link.old) (L.losses link.old)) (counts_of (I.faults ingress.new) (L.faults link.new) (L.losses link.new)) result.entries result.end }
     ensures replays { IfSome (I.lists ingress.new) (λ told. IsReplayed plan.module told result.entries) }
+    ensures backed { IfSome (I.lists ingress.new) (λ told. IfFresh (L.journal link.old) (IsBackedRun plan.module told (L.exchanges link.new) result.entries)) }
     ensures exchanges { Extends (L.exchanges link.old) (L.exchanges link.new) }
     ensures losses { L.losses link.old ≤ L.losses link.new }
     ensures sink_cause { IsSinkCauseOf (O.faults out.old) (O.faults out.new) result.end }
@@ -100,6 +101,9 @@ pub fn statefun_run<I: Ingress, L: Link, O: Sink>(
 
     // The record is steps of the sequential machine, over the ingress' lists where these are told.
     ensures replays { IfOk (plan_of (map string_bytes words.now)) (λ plan. IfSome (I.lists ingress.new) (λ told. IsReplayed plan.module told result.entries)) }
+
+    // Each answer in the record is one that its endpoint gave, where the link tells and has started no call of a leg from 1 on.
+    ensures backed { IfOk (plan_of (map string_bytes words.now)) (λ plan. IfSome (I.lists ingress.new) (λ told. IfFresh (L.journal link.old) (IsBackedRun plan.module told (L.exchanges link.new) result.entries))) }
 
     ensures exchanges { Extends (L.exchanges link.old) (L.exchanges link.new) }
     ensures sink_cause { IsSinkCauseOf (O.faults out.old) (O.faults out.new) result.end }

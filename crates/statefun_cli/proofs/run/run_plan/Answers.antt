@@ -4,7 +4,7 @@ use Rattle.statefun_cli.specs.declared.turn.TheConstants.{PATIENCE}
 use Rattle.statefun_cli.specs.Running.{IsRun}
 use Rattle.statefun_cli.specs.Plain.{IsPlainRun, counts_of}
 use Rattle.statefun_cli.proofs.Beginning.{not_begun, told_text}
-use Rattle.statefun_cli.proofs.Replayed.{run_replayed, none_replayed}
+use Rattle.statefun_cli.proofs.Replayed.{run_replayed, none_replayed, run_is_backed, none_backed}
 use Rattle.statefun_cli.proofs.run.run_plan.Goals as goal
 
 pub returns-in_default-clause-ran : goal.returns-in_default-clause-ran
@@ -29,4 +29,12 @@ returns-in_default-clause-replays g c = none_replayed c.args.plan.module _ c.out
 pub returns-clause-replays : goal.returns-clause-replays
 returns-clause-replays g c =
     run_replayed c.args.plan.module c.requires.plain PATIENCE c.args.plan.turns (g.I.Ingress.lists c.drive-end.new.ingress) (g.L.Link.journal c.args.link.now) (g.L.Link.journal c.drive-end.new.link) (g.L.Link.exchanges c.drive-end.new.link) c.drive-end.new.progress.entries c.drive-end.result
+      (subst (λ (m : Module). IsRun m PATIENCE c.args.plan.turns (g.I.Ingress.lists c.drive-end.new.ingress) (g.L.Link.journal c.args.link.now) (g.L.Link.journal c.drive-end.new.link) (g.L.Link.exchanges c.drive-end.new.link) c.drive-end.new.progress.entries c.drive-end.result) c.in-Ok.ensures c.drive-end.ensures.run)
+
+pub returns-in_default-clause-backed : goal.returns-in_default-clause-backed
+returns-in_default-clause-backed g c = none_backed c.args.plan.module _ _ _ c.out_of_memory.result.entries c.out_of_memory.ensures.entries
+
+pub returns-clause-backed : goal.returns-clause-backed
+returns-clause-backed g c =
+    run_is_backed c.args.plan.module c.requires.plain PATIENCE c.args.plan.turns (g.I.Ingress.lists c.drive-end.new.ingress) (g.L.Link.journal c.args.link.now) (g.L.Link.journal c.drive-end.new.link) (g.L.Link.exchanges c.drive-end.new.link) c.drive-end.new.progress.entries c.drive-end.result
       (subst (λ (m : Module). IsRun m PATIENCE c.args.plan.turns (g.I.Ingress.lists c.drive-end.new.ingress) (g.L.Link.journal c.args.link.now) (g.L.Link.journal c.drive-end.new.link) (g.L.Link.exchanges c.drive-end.new.link) c.drive-end.new.progress.entries c.drive-end.result) c.in-Ok.ensures c.drive-end.ensures.run)

@@ -1,10 +1,9 @@
-use Rattle.statefun_cli.proofs.Backing.{own_exchange}
 use Rattle.std.proofs.Common.{List, Result, Ok, Err}
 use Rattle.std.specs.Prelude.{IfOk, map}
 use Rattle.statefun_cli.specs.declared.words.Plan.{Plan}
 use Rattle.std.proofs.lemmas.Result.{MatchResult-weaker}
 use Rattle.statefun_cli.proofs.Beginning.{not_begun}
-use Rattle.statefun_cli.proofs.Replayed.{none_replayed_of}
+use Rattle.statefun_cli.proofs.Replayed.{none_replayed_of, none_backed_of}
 use Rattle.statefun_cli.proofs.run.statefun_run.Goals as goal
 
 any_plan : {E : Type 0} (P : Plan → Type 0) (read : Result Plan E) → ((plan : Plan) → P plan) → IfOk read P
@@ -16,3 +15,6 @@ returns-in-Err-OutOfMemory-clause-ran g c = any_plan _ _ (λ plan. not_begun pla
 
 pub returns-in-Err-OutOfMemory-clause-replays : goal.returns-in-Err-OutOfMemory-clause-replays
 returns-in-Err-OutOfMemory-clause-replays g c = none_replayed_of _ _ c.out_of_memory.result.entries c.out_of_memory.ensures.entries
+
+pub returns-in-Err-OutOfMemory-clause-backed : goal.returns-in-Err-OutOfMemory-clause-backed
+returns-in-Err-OutOfMemory-clause-backed g c = none_backed_of _ _ _ _ c.out_of_memory.result.entries c.out_of_memory.ensures.entries
