@@ -7,6 +7,7 @@ use sf_outside::{
     Call, Fault, IngressRecord, LinkEvent, MemoryIngress, MemorySink, ScriptLink, Turn,
 };
 use std::alloc::Global;
+use std::process::Abort;
 use std::test::Fail;
 
 /// The words of a run, without the number of turns.
@@ -25,17 +26,20 @@ const STRANGE: &[u8; 64] =
 const REQUEST: &[u8; 67] =
     b"\xa2\x06\x40\x0a\x19\x0a\x0bcom.example\x12\x07greeter\x1a\x01a\x1a\x23\x12\x21\x0a\x18io.statefun.types/string\x10\x01\x1a\x03\x0a\x01a";
 
-/// One run: its records' keys, its number of turns and its link's script, and what it is to come to.
-#[derive(Drop)]
-struct Row<'a> {
-    keys: &'a [&'a str],
-    turns: &'a str,
-    script: &'a str,
-    status: u8,
-    steps: &'a str,
-    greeted: &'a [&'a str],
-    end: &'a str,
-}
+/// Runs, a line each: the keys of the records, each with a `;` before it, the number of turns, the link's script, and what comes of
+/// it: the status, the steps, the keys that are greeted, and the line of the end.
+const ROWS: &str = ";a|10|greet:0|0|T1.1.0 B1.2.1 |;a|done taken 1
+;a|1|greet:0|5|T1.1.0 B1.2.1 |;a|turns 1 taken 1
+;a|10|lose:0|6|T1.1.0 ||endpoint failed com.example/greeter/a lost:5
+;a|10|bad:0|6|T1.1.0 ||endpoint failed com.example/greeter/a refused:NotBuilt:0
+;a|10|strange:0|6|T1.1.0 ||endpoint failed com.example/greeter/a refused:UnknownEgress:0
+;a b%;|10|greet:0 greet:1|0|T1.1.0 B1.2.1 T2.1.0 B2.2.1 |;a%20b%25;|done taken 2
+;a;b|10|empty:0 greet:0 lose:0 greet:5 greet:1|0|T1.1.0 B1.2.1 T2.1.0 B2.2.1 |;b|done taken 2
+;a|10|wait:998 greet:0|0|T1.1.0 B1.2.1 |;a|done taken 1
+;a|10|wait:999 greet:0|0|T1.1.0 B1.2.1 |;a|done taken 1
+;a|10|wait:1000 greet:0|6|T1.1.0 ||endpoint failed com.example/greeter/a late
+;a;b|10|greet:0 wait:999 lose:0 greet:1|6|T1.1.0 B1.2.1 T2.1.0 |;a|endpoint failed com.example/greeter/b late
+|1|wait:0|0|||done taken 0";
 
 /// What a run came to.
 #[derive(Drop)]
@@ -61,10 +65,10 @@ fn nothing_fails(alloc: Global) -> Failing {
     }
 }
 
-/// Split 0, with the string `a` under each of these keys.
-fn split(alloc: Global, keys: &[&str]) -> Mem<List<List<IngressRecord>>> {
+/// Split 0, with the string `a` under each of these keys, each of which has a `;` before it.
+fn split(alloc: Global, keys: &str) -> Mem<List<List<IngressRecord>>> {
     let mut records = List::new(alloc);
-    for key in keys {
+    for key in keys.split(';').skip(1) {
         records.push(IngressRecord {
             key: Text::copy_of(alloc, key)?,
             value: Bytes::copy_of(alloc, &[10, 1, 97])?,
@@ -120,10 +124,10 @@ fn steps_of(alloc: Global, entries: &[Entry]) -> Mem<Bytes> {
     Ok(text)
 }
 
-/// The egress lines of those who greeted, and the line of the end.
-fn text_of(alloc: Global, greeted: &[&str], end: &str) -> Mem<Bytes> {
+/// The egress lines of those who greeted, each with a `;` before it, and the line of the end.
+fn text_of(alloc: Global, greeted: &str, end: &str) -> Mem<Bytes> {
     let mut text = Bytes::new(alloc);
-    for id in greeted {
+    for id in greeted.split(';').skip(1) {
         text.append(b"com.example/greeter/")?;
         text.append(id.as_bytes())?;
         text.append(b" com.example/greetings io.statefun.types/string 0a0161\n")?;
@@ -136,7 +140,7 @@ fn text_of(alloc: Global, greeted: &[&str], end: &str) -> Mem<Bytes> {
 /// Makes a run of a job.
 fn make_run(
     alloc: Global,
-    keys: &[&str],
+    keys: &str,
     turns: &str,
     script: List<Turn>,
     failing: Failing,
@@ -159,128 +163,47 @@ fn make_run(
     })
 }
 
-/// Each run of the table comes to what its row says.
+/// A row of the table, field by field.
+#[derive(Drop)]
+struct Row<'a> {
+    keys: &'a str,
+    turns: &'a str,
+    script: &'a str,
+    status: u8,
+    steps: &'a str,
+    greeted: &'a str,
+    end: &'a str,
+}
+
+fn row_of(line: &str) -> Result<Row, Fail> {
+    let mut fields = line.split('|');
+    Ok(Row {
+        keys: fields.next().ok_or("no keys")?,
+        turns: fields.next().ok_or("no turns")?,
+        script: fields.next().ok_or("no script")?,
+        status: fields.next().ok_or("no status")?.parse::<u8>()?,
+        steps: fields.next().ok_or("no steps")?,
+        greeted: fields.next().ok_or("no greeted")?,
+        end: fields.next().ok_or("no end")?,
+    })
+}
+
+/// The run of a row comes to what the row says.
+fn check_row(rt: &impl Abort, alloc: Global, row: Row) -> Result<(), Fail> {
+    let script = script_of(alloc, row.script)?;
+    let run = make_run(alloc, row.keys, row.turns, script, nothing_fails(alloc))?;
+    let text = text_of(alloc, row.greeted, row.end)?;
+    let name = row.script;
+    assert_eq!(rt; run.status, row.status, "{name}");
+    assert_eq!(rt; run.steps.as_slice(), row.steps.as_bytes(), "{name}");
+    assert_eq!(rt; run.text.as_slice(), text.as_slice(), "{name}");
+    Ok(())
+}
+
 #[test]
 fn runs_by_rows(rt: HostRuntime) -> Result<(), Fail> {
-    let alloc = rt.alloc();
-    let rows: [Row; 12] = [
-        Row {
-            keys: &["a"],
-            turns: "10",
-            script: "greet:0",
-            status: 0,
-            steps: "T1.1.0 B1.2.1 ",
-            greeted: &["a"],
-            end: "done taken 1",
-        },
-        Row {
-            keys: &["a"],
-            turns: "1",
-            script: "greet:0",
-            status: 5,
-            steps: "T1.1.0 B1.2.1 ",
-            greeted: &["a"],
-            end: "turns 1 taken 1",
-        },
-        Row {
-            keys: &["a"],
-            turns: "10",
-            script: "lose:0",
-            status: 6,
-            steps: "T1.1.0 ",
-            greeted: &[],
-            end: "endpoint failed com.example/greeter/a lost:5",
-        },
-        Row {
-            keys: &["a"],
-            turns: "10",
-            script: "bad:0",
-            status: 6,
-            steps: "T1.1.0 ",
-            greeted: &[],
-            end: "endpoint failed com.example/greeter/a refused:NotBuilt:0",
-        },
-        Row {
-            keys: &["a"],
-            turns: "10",
-            script: "strange:0",
-            status: 6,
-            steps: "T1.1.0 ",
-            greeted: &[],
-            end: "endpoint failed com.example/greeter/a refused:UnknownEgress:0",
-        },
-        Row {
-            keys: &["a b%", ""],
-            turns: "10",
-            script: "greet:0 greet:1",
-            status: 0,
-            steps: "T1.1.0 B1.2.1 T2.1.0 B2.2.1 ",
-            greeted: &["a%20b%25", ""],
-            end: "done taken 2",
-        },
-        Row {
-            keys: &["a", "b"],
-            turns: "10",
-            script: "empty:0 greet:0 lose:0 greet:5 greet:1",
-            status: 0,
-            steps: "T1.1.0 B1.2.1 T2.1.0 B2.2.1 ",
-            greeted: &["b"],
-            end: "done taken 2",
-        },
-        Row {
-            keys: &["a"],
-            turns: "10",
-            script: "wait:998 greet:0",
-            status: 0,
-            steps: "T1.1.0 B1.2.1 ",
-            greeted: &["a"],
-            end: "done taken 1",
-        },
-        Row {
-            keys: &["a"],
-            turns: "10",
-            script: "wait:999 greet:0",
-            status: 0,
-            steps: "T1.1.0 B1.2.1 ",
-            greeted: &["a"],
-            end: "done taken 1",
-        },
-        Row {
-            keys: &["a"],
-            turns: "10",
-            script: "wait:1000 greet:0",
-            status: 6,
-            steps: "T1.1.0 ",
-            greeted: &[],
-            end: "endpoint failed com.example/greeter/a late",
-        },
-        Row {
-            keys: &["a", "b"],
-            turns: "10",
-            script: "greet:0 wait:999 lose:0 greet:1",
-            status: 6,
-            steps: "T1.1.0 B1.2.1 T2.1.0 ",
-            greeted: &["a"],
-            end: "endpoint failed com.example/greeter/b late",
-        },
-        Row {
-            keys: &[],
-            turns: "1",
-            script: "wait:0",
-            status: 0,
-            steps: "",
-            greeted: &[],
-            end: "done taken 0",
-        },
-    ];
-    for row in rows {
-        let script = script_of(alloc, row.script)?;
-        let run = make_run(alloc, row.keys, row.turns, script, nothing_fails(alloc))?;
-        let text = text_of(alloc, row.greeted, row.end)?;
-        let name = row.script;
-        assert_eq!(rt; run.status, row.status, "{name}");
-        assert_eq!(rt; run.steps.as_slice(), row.steps.as_bytes(), "{name}");
-        assert_eq!(rt; run.text.as_slice(), text.as_slice(), "{name}");
+    for line in ROWS.lines() {
+        check_row(&rt, rt.alloc(), row_of(line)?)?;
     }
     Ok(())
 }
@@ -294,7 +217,7 @@ fn wrong_words_are_told(rt: HostRuntime) -> Result<(), Fail> {
         ("run com.example/greeter", "usage word 2\n"),
     ] {
         let words = words_of(alloc, line)?;
-        let mut ingress = MemoryIngress::steady(alloc, split(alloc, &["a"])?)?;
+        let mut ingress = MemoryIngress::steady(alloc, split(alloc, ";a")?)?;
         let mut link = ScriptLink::steady(alloc, List::new(alloc))?;
         let mut out = MemorySink::steady(alloc, Bytes::new(alloc))?;
         let run = statefun_run(alloc, words.as_slice(), &mut ingress, &mut link, &mut out);
@@ -312,7 +235,7 @@ fn a_request_is_sent(rt: HostRuntime) -> Result<(), Fail> {
     let alloc = rt.alloc();
     let mut words = words_of(alloc, JOB)?;
     words.push(String::from_str(alloc, "10")?)?;
-    let mut ingress = MemoryIngress::steady(alloc, split(alloc, &["a"])?)?;
+    let mut ingress = MemoryIngress::steady(alloc, split(alloc, ";a")?)?;
     let mut link = ScriptLink::steady(alloc, script_of(alloc, "wait:1 greet:0")?)?;
     let mut out = MemorySink::steady(alloc, Bytes::new(alloc))?;
     let run = statefun_run(alloc, words.as_slice(), &mut ingress, &mut link, &mut out);
@@ -348,39 +271,47 @@ fn one_fails(alloc: Global, object: usize, call: u64) -> Mem<Failing> {
     Ok(failing)
 }
 
-/// Each call of the ingress, of the link and of the sink fails in turn: a run of three records ends with that object's fault,
-/// with so many steps as were made before it, and a call that is not made changes nothing.
+/// The steps of a run of three records.
+const WHOLE: &str = "T1.1.0 B1.2.1 T2.1.0 B2.2.1 T3.1.0 B3.2.1 ";
+
+/// The object that fails, by its number, and its call, behind which stand the status and how many steps were made.
+const FAULTS: [(usize, u64, u8, usize); 14] = [
+    (0, 0, 9, 0),
+    (0, 1, 9, 2),
+    (0, 2, 9, 4),
+    (0, 3, 9, 6),
+    (0, 4, 0, 6),
+    (1, 0, 12, 1),
+    (1, 1, 12, 1),
+    (1, 2, 12, 3),
+    (1, 3, 12, 3),
+    (1, 4, 12, 5),
+    (1, 5, 12, 5),
+    (1, 6, 0, 6),
+    (2, 0, 11, 6),
+    (2, 1, 0, 6),
+];
+
+/// A run of three records, in which one call fails.
+fn failing_run(alloc: Global, object: usize, call: u64) -> Result<Made, Fail> {
+    let script = script_of(alloc, "greet:0 greet:1 greet:2")?;
+    let failing = one_fails(alloc, object, call)?;
+    Ok(make_run(alloc, ";a;b;a", "10", script, failing)?)
+}
+
+/// Each call of the ingress, of the link and of the sink fails in turn: the run ends with that object's fault, with the steps that
+/// were made before it, and a call that is not made changes nothing.
 #[test]
 fn each_call_fails_in_turn(rt: HostRuntime) -> Result<(), Fail> {
-    let alloc = rt.alloc();
-    let keys = ["a", "b", "a"];
-    let whole = b"T1.1.0 B1.2.1 T2.1.0 B2.2.1 T3.1.0 B3.2.1 ";
-    // status, how many calls are made, and the length of the steps before each of them
-    let rows: [(u8, &[usize]); 3] = [
-        (9, &[0, 14, 28, 42]),
-        (12, &[7, 7, 21, 21, 35, 35]),
-        (11, &[42]),
-    ];
-    for (object, (status, lengths)) in rows.iter().enumerate() {
-        for call in 0..8u64 {
-            let script = script_of(alloc, "greet:0 greet:1 greet:2")?;
-            let failing = one_fails(alloc, object, call)?;
-            let run = make_run(alloc, &keys, "10", script, failing)?;
-            match lengths.get(call as usize) {
-                Some(length) => {
-                    assert_eq!(rt; run.status, *status, "object {object} call {call}");
-                    assert_eq!(rt; run.steps.len(), *length, "object {object} call {call}");
-                }
-                None => {
-                    assert_eq!(rt; run.status, 0, "object {object} call {call}");
-                    assert_eq!(rt; run.steps.len(), whole.len(), "object {object} call {call}");
-                }
-            }
-            assert!(rt;
-                whole.starts_with(run.steps.as_slice()),
-                "object {object} call {call}"
-            );
-        }
+    for (object, call, status, steps) in FAULTS {
+        let run = failing_run(rt.alloc(), object, call)?;
+        assert_eq!(rt; run.status, status, "object {object} call {call}");
+        // each step is written in seven bytes
+        assert_eq!(rt; run.steps.len() / 7, steps, "object {object} call {call}");
+        assert!(rt;
+            WHOLE.as_bytes().starts_with(run.steps.as_slice()),
+            "object {object} call {call}"
+        );
     }
     Ok(())
 }
