@@ -14,3 +14,4 @@ pub mod Replaying
 pub mod Replayed
 pub mod Backing
 pub mod Apart
+pub mod Served

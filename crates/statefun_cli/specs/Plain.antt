@@ -14,6 +14,11 @@ use Rattle.run_record.specs.Backed.{AreBacked}
 use Rattle.run_record.specs.declared.entry.Step.{Step}
 use Rattle.run_record.specs.declared.entry.Step.TheVariants.{Take, Batch}
 use Rattle.statefun_cli.specs.Making.{LegsBelow}
+use Rattle.sf_outside.specs.declared.call.Answered.TheVariants.{Answer}
+use Rattle.request_reply.specs.declared.answer.InvocationResponse.{InvocationResponse}
+use Rattle.request_reply.specs.declared.judging.Judged.TheVariants.{Accept}
+use Rattle.request_reply.specs.Valid.{verdict}
+use Rattle.statefun_cli.specs.Turns.{Heard, call_in, own_outcome, turns_of}
 use Rattle.run_record.specs.Egress.{egress_of, egress_text}
 use Rattle.statefun_cli.specs.declared.end.PlainEnd.{PlainEnd}
 use Rattle.statefun_cli.specs.declared.end.PlainEnd.TheVariants.{Done, Usage, TurnsSpent, EndpointFailed, IngressFault, LinkFault, SinkFault, OutOfMemory}
@@ -92,3 +97,34 @@ pub record IsBackedRun (m : Module) (lists : Lists) (exchanges : List Exchange) 
 abbrev pub IfFresh : Option (List LinkEvent) → Type 0 → Type 0
 IfFresh None fact = Unit {0}
 IfFresh (Some events) fact = LegsBelow 1 events → fact
+
+-- the ingress or the link is named as the fault only where its count rose
+abbrev pub IsFaultCause : Counts → Counts → PlainEnd → Type 0
+IsFaultCause counts counts' IngressFault = Rose counts.ingress_faults counts'.ingress_faults
+IsFaultCause counts counts' LinkFault = Rose counts.link_faults counts'.link_faults
+IsFaultCause counts counts' end = Unit {0}
+
+-- a turn's call was answered by a valid answer before it was late
+pub record IsServed (m : Module) (turn : ℕ) (heard : Heard) : Type 0 where
+  pub answer : List ℕ
+  pub own : own_outcome (call_in turn) heard.polls ≡ Some (Answer answer)
+  pub response : InvocationResponse
+  pub valid : verdict m.egresses answer ≡ Accept response
+
+-- and so each call that was started in the turns from this number on
+abbrev pub AreServed : Module → ℕ → List Heard → Type 0
+AreServed m turn [] = Unit {0}
+AreServed m turn (heard ∷ later) = (heard.started ≡ true → IsServed m turn heard) × AreServed m (turn + 1) later
+
+abbrev pub IsComplete : PlainEnd → Type 0
+IsComplete (Done taken) = Unit {0}
+IsComplete (TurnsSpent taken) = Unit {0}
+IsComplete OutOfMemory = Unit {0}
+IsComplete end = ⊥
+
+-- Something was heard, which is what the link did, such that where no count rose and each call was answered by a valid answer
+-- before it was late, the run was done, made all its turns, or ran out of memory.
+pub record IsCompleteRun (m : Module) (patience : ℕ) (before after : Option (List LinkEvent)) (counts counts' : Counts) (sink sink' : ℕ) (end : PlainEnd) : Type 0 where
+  pub heard : List Heard
+  pub journal : after ≡ more before (turns_of m patience heard).events
+  pub complete : (Rose counts.ingress_faults counts'.ingress_faults → ⊥) → (Rose counts.link_faults counts'.link_faults → ⊥) → (Rose sink sink' → ⊥) → AreServed m 1 heard → IsComplete end

@@ -5,7 +5,7 @@ ghost use Rattle.sf_outside.specs.Told.{Rose};
 ghost use Rattle.sf_outside.specs.Answers.{Extends};
 ghost use Rattle.run_record.specs.Routing.{splits_in, is_routable};
 ghost use Rattle.statefun_cli.specs.Words.{plan_of, IsPlain};
-ghost use Rattle.statefun_cli.specs.Plain.{IfFresh, IsBackedRun, IsReplayed, IsTold, IsSinkCauseOf, IsPlainRun, IsUsage, counts_of};
+ghost use Rattle.statefun_cli.specs.Plain.{IsFaultCause, IsCompleteRun, IfFresh, IsBackedRun, IsReplayed, IsTold, IsSinkCauseOf, IsPlainRun, IsUsage, counts_of};
 ghost use Rattle.statefun_cli.specs.Running.{IsNoSinkFault};
 
 use crate::drive::drive;
@@ -47,6 +47,8 @@ fn run_plan<I: Ingress, L: Link, O: Sink>(
     requires plain { IsPlain plan.module }
     ensures ran { IsPlainRun plan.module PATIENCE plan.turns (I.lists ingress.new) (L.journal link.old) (L.journal link.new) (L.exchanges link.new) (O.written out.old) (O.written out.new)
         (counts_of (I.faults ingress.old) (L.faults link.old) (L.losses link.old)) (counts_of (I.faults ingress.new) (L.faults link.new) (L.losses link.new)) result.entries result.end }
+    ensures fault_cause { IsFaultCause (counts_of (I.faults ingress.old) (L.faults link.old) (L.losses link.old)) (counts_of (I.faults ingress.new) (L.faults link.new) (L.losses link.new)) result.end }
+    ensures complete { IsCompleteRun plan.module PATIENCE (L.journal link.old) (L.journal link.new) (counts_of (I.faults ingress.old) (L.faults link.old) (L.losses link.old)) (counts_of (I.faults ingress.new) (L.faults link.new) (L.losses link.new)) (O.faults out.old) (O.faults out.new) result.end }
     ensures replays { IfSome (I.lists ingress.new) (λ told. IsReplayed plan.module told result.entries) }
     ensures backed { IfSome (I.lists ingress.new) (λ told. IfFresh (L.journal link.old) (IsBackedRun plan.module told (L.exchanges link.new) result.entries)) }
     ensures exchanges { Extends (L.exchanges link.old) (L.exchanges link.new) }
@@ -98,6 +100,13 @@ pub fn statefun_run<I: Ingress, L: Link, O: Sink>(
     // The record and the end are those of the turns, over what was heard in them.
     ensures ran { IfOk (plan_of (map string_bytes words.now)) (λ plan. IsPlainRun plan.module PATIENCE plan.turns (I.lists ingress.new) (L.journal link.old) (L.journal link.new) (L.exchanges link.new) (O.written out.old) (O.written out.new)
         (counts_of (I.faults ingress.old) (L.faults link.old) (L.losses link.old)) (counts_of (I.faults ingress.new) (L.faults link.new) (L.losses link.new)) result.entries result.end) }
+
+    // The ingress or the link is named as the fault only where its count rose.
+    ensures fault_cause { IsFaultCause (counts_of (I.faults ingress.old) (L.faults link.old) (L.losses link.old)) (counts_of (I.faults ingress.new) (L.faults link.new) (L.losses link.new)) result.end }
+
+    // With valid answers and no fault the run is done, or makes all its turns.
+    ensures complete { IfOk (plan_of (map string_bytes words.now)) (λ plan. IsCompleteRun plan.module PATIENCE (L.journal link.old) (L.journal link.new)
+        (counts_of (I.faults ingress.old) (L.faults link.old) (L.losses link.old)) (counts_of (I.faults ingress.new) (L.faults link.new) (L.losses link.new)) (O.faults out.old) (O.faults out.new) result.end) }
 
     // The record is steps of the sequential machine, over the ingress' lists where these are told.
     ensures replays { IfOk (plan_of (map string_bytes words.now)) (λ plan. IfSome (I.lists ingress.new) (λ told. IsReplayed plan.module told result.entries)) }

@@ -3,6 +3,8 @@ use Rattle.std.specs.Prelude.{IfOk, map}
 use Rattle.statefun_cli.specs.declared.words.Plan.{Plan}
 use Rattle.std.proofs.lemmas.Result.{MatchResult-weaker}
 use Rattle.statefun_cli.proofs.Beginning.{not_begun}
+use Rattle.statefun_cli.specs.Plain.{counts_of}
+use Rattle.statefun_cli.proofs.Served.{none_complete_of}
 use Rattle.statefun_cli.proofs.Replayed.{none_replayed_of, none_backed_of}
 use Rattle.statefun_cli.proofs.run.statefun_run.Goals as goal
 
@@ -18,3 +20,6 @@ returns-in-Err-OutOfMemory-clause-replays g c = none_replayed_of _ _ c.out_of_me
 
 pub returns-in-Err-OutOfMemory-clause-backed : goal.returns-in-Err-OutOfMemory-clause-backed
 returns-in-Err-OutOfMemory-clause-backed g c = none_backed_of _ _ _ _ c.out_of_memory.result.entries c.out_of_memory.ensures.entries
+
+pub returns-in-Err-OutOfMemory-clause-complete : goal.returns-in-Err-OutOfMemory-clause-complete
+returns-in-Err-OutOfMemory-clause-complete g c = none_complete_of _ _ _ (counts_of (g.I.Ingress.faults c.args.ingress.now) (g.L.Link.faults c.args.link.now) (g.L.Link.losses c.args.link.now)) _ c.out_of_memory.result.end c.out_of_memory.ensures.end
