@@ -1,5 +1,5 @@
 //! Texts.
-ghost use Rattle.std.specs.Prelude.{◌≡◌, ◌↔◌, [], length, IsTrue, IsUtf8, IsSome, IfSome, IfOk};
+ghost use Rattle.std.specs.Prelude.{◌≡◌, ◌↔◌, ◌++◌, [], length, IsTrue, IsUtf8, IsSome, IfSome, IfOk, OnOk, OnErr};
 
 use crate::{Bytes, Mem, Same, TryClone};
 use std::alloc::Global;
@@ -76,6 +76,15 @@ impl Text {
         ensures { result ≡ length self.now }
     {
         self.text.len()
+    }
+
+    /// Adds a text at the end. An `Err` changes nothing.
+    pub fn append(&mut self, text: &str) -> Mem<()>
+        ensures ok { OnOk result (self.new ≡ self.old ++ text.now) }
+        ensures err { OnErr result (self.new ≡ self.old) }
+    {
+        self.text.push_str(text)?;
+        Ok(())
     }
 
     /// Whether it has none.

@@ -1,6 +1,5 @@
 -- When the answers of a record are its endpoints' own.
-use Rattle.std.specs.Prelude.{◌≡◌, ℕ, List, [], ◌∷◌, ◌++◌, Option, Some, IfSome, Contains}
-use Rattle.std.specs.List.{IsDistinct}
+use Rattle.std.specs.Prelude.{◌≡◌, ℕ, List, [], ◌∷◌, ◌++◌, Some, IfSome, Contains}
 use Rattle.sf_outside.specs.declared.call.Call.{Call}
 use Rattle.sf_outside.specs.declared.call.Exchange.{Exchange}
 use Rattle.sf_outside.specs.Splits.{Lists}

@@ -1,5 +1,5 @@
 -- What a record gave to the egresses, and the text of it.
-use Rattle.std.specs.Prelude.{ℕ, ◌+◌, ◌/◌, ◌%◌, nat_lt, nat_le, List, [], ◌∷◌, ◌++◌, ◌||◌, ◌==◌, map, codes, if◌then◌else◌}
+use Rattle.std.specs.Prelude.{◌≡◌, ℕ, ◌+◌, ◌/◌, ◌%◌, nat_lt, List, [], ◌∷◌, ◌++◌, ◌||◌, ◌==◌, map, codes, if◌then◌else◌}
 use Rattle.std.specs.List.{flat_map}
 use Rattle.typed_values.specs.declared.name.TypeName.{TypeName}
 use Rattle.typed_values.specs.declared.address.Address.{Address}
@@ -32,6 +32,10 @@ unfoldable pub egress_of : Module → List Entry → List EgressRecord
 egress_of m entries = flat_map (λ entry. records_of_step m entry.step) entries
 
 -- ---- the text
+
+-- these bytes, with some behind them
+abbrev pub StartsAs : List ℕ → List ℕ → Type 0
+StartsAs front bytes = (rest : List ℕ) × (bytes ≡ front ++ rest)
 
 -- a digit of a number below 16, in upper case and in lower case
 abbrev pub upper_digit : ℕ → ℕ

@@ -13,7 +13,6 @@ use Rattle.typed_values.specs.declared.cell.Expiry.{Expiry}
 use Rattle.typed_values.specs.declared.cell.Expiry.TheVariants.{Never, AfterWrite, AfterInvoke}
 use Rattle.typed_values.specs.declared.record.Delay.{Delay}
 use Rattle.typed_values.specs.Sameness.{same_name, same_address, same_sender}
-use Rattle.sf_outside.specs.declared.ingress.IngressRecord.{IngressRecord}
 use Rattle.sf_outside.specs.Splits.{Lists, record_at}
 use Rattle.request_reply.specs.declared.request.ToFunction.{ToFunction}
 use Rattle.request_reply.specs.declared.request.ToFunction.TheVariants.{Invocation}
@@ -156,13 +155,12 @@ argument_of None = record { typename = []; has_value = false; value = [] }
 argument_of (Some argument) = argument
 
 -- the messages of an answer as letters; one without a target is none
+abbrev pub letters_to : Address → Option Address → TypedValue → List Letter
+letters_to address None argument = []
+letters_to address (Some target) argument = record { sender = Function address; target = target; argument = argument } ∷ []
+
 abbrev pub letters_from : Address → List OutgoingInvocation → List Letter
-letters_from address [] = []
-letters_from address (message ∷ messages) = addressed message.target ++ letters_from address messages
-  where
-    addressed : Option Address → List Letter
-    addressed None = []
-    addressed (Some target) = record { sender = Function address; target = target; argument = argument_of message.argument } ∷ []
+letters_from address messages = flat_map (λ message. letters_to address message.target (argument_of message.argument)) messages
 
 -- the egress of an answer, as pairs of an egress and an argument
 abbrev pub egress_name : EgressMessage → TypeName
@@ -189,13 +187,10 @@ response_of (Flaw flaw) = None
 
 -- A batch is served where its moment is not before the address' last, its picks give a request, and the answer is valid.
 unfoldable pub batch_step : Module → Reply → State → Option State
-batch_step m reply st = if nat_le (st.seen reply.address) reply.moment then batched else None
-  where
-    batched : Option State
-    batched = do
-      request ← request_of m st reply.address reply.moment reply.picks
-      response ← response_of (verdict m.egresses reply.answer)
-      Some (served reply response st)
+batch_step m reply st = if nat_le (st.seen reply.address) reply.moment then (do
+  request ← request_of m st reply.address reply.moment reply.picks
+  response ← response_of (verdict m.egresses reply.answer)
+  Some (served reply response st)) else None
 
 -- ---- records of steps
 

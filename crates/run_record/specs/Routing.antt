@@ -1,7 +1,7 @@
 -- Where things go in a job.
-use Rattle.std.specs.Prelude.{◌≡◌, ℕ, ◌+◌, ◌-◌, nat_eq, nat_lt, codes, zero, suc, List, [], ◌∷◌, ◌++◌, Bool, true, false, ◌&&◌, if◌then◌else◌, Option, Some, None, map, find, option_and_then}
+use Rattle.std.specs.Prelude.{ℕ, ◌+◌, ◌-◌, nat_eq, nat_lt, nat_le, codes, zero, suc, List, [], ◌∷◌, ◌++◌, Bool, true, false, not, ◌&&◌, if◌then◌else◌, Option, Some, None, is_some, map, find}
 use Rattle.std.specs.Option.{option_map, option_map_or}
-use Rattle.std.specs.List.{starts_with}
+use Rattle.std.specs.List.{starts_with, list_any, list_all}
 use Rattle.typed_values.specs.declared.name.TypeName.{TypeName}
 use Rattle.typed_values.specs.declared.letter.Sender.TheVariants.{Split}
 use Rattle.typed_values.specs.declared.letter.Letter.{Letter}
@@ -9,6 +9,7 @@ use Rattle.typed_values.specs.Sameness.{same_bytes, same_name}
 use Rattle.sf_outside.specs.declared.ingress.IngressRecord.{IngressRecord}
 use Rattle.run_record.specs.declared.module.Module.{Module}
 use Rattle.run_record.specs.declared.module.Endpoint.{Endpoint}
+use Rattle.run_record.specs.declared.module.TypePattern.{TypePattern}
 use Rattle.run_record.specs.declared.module.IngressSpec.{IngressSpec}
 
 -- the number of splits of some ingresses
@@ -42,6 +43,43 @@ or_else None other = other
 -- the endpoint of a type: the one with that very name, else the one of its namespace
 unfoldable pub endpoint_of : Module → TypeName → Option Endpoint
 endpoint_of m kind = or_else (find (is_exact kind) m.endpoints) (find (is_wide kind) m.endpoints)
+
+-- ---- modules whose records have a way to go
+
+-- no two items of a list are the same
+abbrev pub all_apart : {A : Type 0} → (A → A → Bool) → List A → Bool
+all_apart same [] = true
+all_apart same (x ∷ xs) = not (list_any (same x) xs) && all_apart same xs
+
+abbrev pub same_pattern_name : Option (List ℕ) → Option (List ℕ) → Bool
+same_pattern_name None None = true
+same_pattern_name (Some a) (Some b) = same_bytes a b
+same_pattern_name None (Some b) = false
+same_pattern_name (Some a) None = false
+
+abbrev pub same_pattern : TypePattern → TypePattern → Bool
+same_pattern a b = same_bytes a.namespace b.namespace && same_pattern_name a.name b.name
+
+-- at least one letter a batch, one attempt, and one poll for each attempt
+abbrev pub is_usable : Endpoint → Bool
+is_usable endpoint = nat_lt 0 endpoint.max_letters && nat_lt 0 endpoint.attempts && nat_lt 0 endpoint.patience
+
+-- each target of an ingress has an endpoint
+abbrev pub is_served : Module → IngressSpec → Bool
+is_served m ingress = list_all (λ target. is_some (endpoint_of m target)) ingress.targets
+
+-- patterns, ingress ids and egress ids stand once each, endpoints are usable, all targets have one, and there are 1 to 32 splits
+abbrev pub is_routable : Module → Bool
+is_routable m =
+    all_apart same_pattern (map (λ (endpoint : Endpoint). endpoint.pattern) m.endpoints)
+    && all_apart same_name (map (λ (ingress : IngressSpec). ingress.id) m.ingresses)
+    && all_apart same_name m.egresses
+    && list_all is_usable m.endpoints
+    && list_all (is_served m) m.ingresses
+    && nat_lt 0 (splits_in m.ingresses)
+    && nat_le (splits_in m.ingresses) 32
+
+-- ---- URLs and letters
 
 -- a template with each `{function.name}` in it replaced by the name; so many bytes in front are passed over
 abbrev pub filled_from : List ℕ → ℕ → List ℕ → List ℕ

@@ -1,5 +1,7 @@
 -- What a link may tell.
-use Rattle.std.specs.Prelude.{◌≡◌, ℕ, ◌≤◌, List, ◌++◌, Option, Some, None, Result, Ok, Err, Contains}
+use Rattle.std.specs.Prelude.{◌≡◌, ℕ, ◌≤◌, List, [], ◌++◌, Option, Some, None, Result, Ok, Err, Contains}
+use Rattle.std.proofs.Common.{sym, append_assoc}
+use Rattle.std.proofs.lemmas.List.{append-nil}
 use Rattle.sf_outside.specs.declared.fault.Fault.{Fault}
 use Rattle.sf_outside.specs.declared.call.Answered.{Answered}
 use Rattle.sf_outside.specs.declared.call.Answered.TheVariants.{Answer, Lost}
@@ -12,6 +14,12 @@ use Rattle.sf_outside.specs.Told.{Rose}
 -- exchanges are only added
 abbrev pub Extends : List Exchange → List Exchange → Type 0
 Extends old new = (rest : List Exchange) × (new ≡ old ++ rest)
+
+pub Extends-none : (old : List Exchange) → Extends old old
+Extends-none old = ([], sym (append-nil old))
+
+pub Extends-then : (old middle new : List Exchange) → Extends old middle → Extends middle new → Extends old new
+Extends-then old middle new h k = (h.0 ++ k.0, rw (k.1, h.1) (append_assoc old h.0 k.0))
 
 -- an exchange with this call and this answer, whose start stands in the journal
 pub record IsExchanged (events : List LinkEvent) (exchanges : List Exchange) (outcome : Outcome) (answer : List ℕ) : Type 0 where

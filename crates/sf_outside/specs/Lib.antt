@@ -1,3 +1,11 @@
 pub mod Told
 pub mod Splits
 pub mod Answers
+pub mod Failing
+pub mod Script
+pub mod Untouched
+pub mod Fixed
+pub mod Log
+pub mod Unread
+pub mod System
+pub mod Opened

@@ -1,7 +1,8 @@
 //! Calls of functions over a link, and what becomes of them.
 ghost use Rattle.std.specs.Prelude.{◌≡◌, ◌↔◌, IsTrue};
 
-use proto_wire::{Bytes, Same, Text};
+use proto_wire::{Bytes, Mem, Same, Text, TryClone};
+use std::alloc::Global;
 
 /// The number of a call: no two calls of a run have the same one.
 #[derive(Clone, Copy, Debug, PartialEq, Eq, PartialOrd, Ord, Hash)]
@@ -29,11 +30,29 @@ pub enum Answered {
     Lost(u32),
 }
 
+impl TryClone for Answered {
+    fn try_clone(&self, alloc: Global) -> Mem<Answered> {
+        match self {
+            Answered::Answer(answer) => Ok(Answered::Answer(answer.try_clone(alloc)?)),
+            Answered::Lost(note) => Ok(Answered::Lost(*note)),
+        }
+    }
+}
+
 /// What a link tells of one call. It may come late, and more than once.
 #[derive(PartialEq, Eq, Drop)]
 pub struct Outcome {
     pub call: Call,
     pub what: Answered,
+}
+
+impl TryClone for Outcome {
+    fn try_clone(&self, alloc: Global) -> Mem<Outcome> {
+        Ok(Outcome {
+            call: self.call,
+            what: self.what.try_clone(alloc)?,
+        })
+    }
 }
 
 /// One thing that a link did.

@@ -4,13 +4,23 @@ ghost use Rattle.sf_outside.specs.Told.{HasCause};
 ghost use Rattle.sf_outside.specs.Splits.{Grows, Reads};
 
 use crate::Fault;
-use proto_wire::{Bytes, Text};
+use proto_wire::{Bytes, Mem, Text, TryClone};
+use std::alloc::Global;
 
 /// One record of an ingress.
 #[derive(PartialEq, Eq, Drop)]
 pub struct IngressRecord {
     pub key: Text,
     pub value: Bytes,
+}
+
+impl TryClone for IngressRecord {
+    fn try_clone(&self, alloc: Global) -> Mem<IngressRecord> {
+        Ok(IngressRecord {
+            key: self.key.try_clone(alloc)?,
+            value: self.value.try_clone(alloc)?,
+        })
+    }
 }
 
 /// An ingress: for each split a list of records, which only grows and reads the same each time.

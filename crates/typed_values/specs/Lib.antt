@@ -1,4 +1,5 @@
 pub mod Sameness
+pub mod Names
 pub mod Tables
 pub mod Again
 pub mod Stored

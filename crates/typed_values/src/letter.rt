@@ -6,7 +6,7 @@ use proto_wire::{Mem, Same, TryClone};
 use std::alloc::Global;
 
 /// Who sent a letter: a split of an ingress, by its number, or a function.
-#[derive(PartialEq, Eq, Drop)]
+#[derive(PartialEq, Eq, PartialOrd, Ord, Drop)]
 pub enum Sender {
     Split(u32),
     Function(Address),

@@ -6,6 +6,7 @@ mod cell;
 mod letter;
 mod messages;
 mod name;
+mod parse;
 mod reading;
 mod record;
 mod stored;
@@ -16,6 +17,7 @@ pub use address::Address;
 pub use cell::{CellSpec, Expiry};
 pub use letter::{Letter, Sender};
 pub use name::TypeName;
+pub use parse::{NameFault, parse_name, parse_type_name};
 pub use record::{Delay, EgressRecord};
 pub use stored::{
     decode_address, decode_delay, decode_egress, decode_letter, decode_sender, decode_value,

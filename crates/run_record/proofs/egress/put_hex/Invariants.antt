@@ -1,0 +1,7 @@
+use Rattle.std.proofs.Common.{◌≡◌, ◌++◌, take}
+use Rattle.run_record.specs.Egress.{hex}
+use Rattle.run_record.proofs.egress.put_hex.Given as goal
+
+-- the bytes so far are added
+abbrev pub invariant-loop-byte : goal.invariant-loop-byte
+invariant-loop-byte l = l.into ≡ l.initial.into ++ hex (take l.byte-index l.bytes)

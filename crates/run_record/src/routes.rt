@@ -1,0 +1,209 @@
+//! Where a job's records and requests go.
+ghost use Rattle.std.specs.Prelude.{◌≡◌, ◌<◌, ◌≤◌, IsTrue, IfOk, Some, find, map};
+ghost use Rattle.std.specs.Option.{option_copied};
+ghost use Rattle.run_record.specs.Routing.{is_routable, is_exact, is_wide, endpoint_of, splits_in, ingress_in, targets_of, filled, url_of, letter_of, letters_of};
+
+use crate::{Endpoint, IngressSpec, Module, TypePattern};
+use proto_wire::{List, Mem, Same, Text, TryClone};
+use sf_outside::IngressRecord;
+use std::alloc::Global;
+use std::marker::Model;
+use typed_values::{Address, Letter, Sender, TypeName, TypedValue};
+
+/// The routes of a job. Contracts see its module, which is one that can be routed.
+#[derive(Drop)]
+pub struct Routes {
+    module: Module,
+}
+
+impl Model for Routes {
+    ghost use Rattle.run_record.specs.declared.module.Module.{Module};
+
+    ghost Value = { Module };
+
+    ghost use Rattle.std.specs.Prelude.{IsTrue};
+    ghost use Rattle.run_record.specs.Routing.{is_routable};
+
+    ghost view = { λ r. r.module };
+
+    ghost invariant = { λ r. IsTrue (is_routable r.module) };
+}
+
+impl Routes {
+    /// The routes of a module, which is moved in. Its patterns, ingress ids and egress ids stand once each, its limits are
+    /// at least 1, each target has an endpoint, and there are 1 to 32 splits in all.
+    pub fn new(_alloc: Global, module: Module) -> Mem<Routes>
+        requires { IsTrue (is_routable «module») }
+        ensures { IfOk result (λ routes. routes ≡ «module») }
+    {
+        Ok(Routes { module })
+    }
+
+    /// The module.
+    pub fn module(&self) -> &Module
+        ensures value { result.now ≡ self.now }
+        ensures routable { IsTrue (is_routable self.now) }
+        ensures splits { (0 < splits_in self.now.ingresses) × (splits_in self.now.ingresses ≤ 32) }
+    {
+        &self.module
+    }
+
+    /// The endpoint for a type: the one whose pattern is that very name, else the one for all names of its namespace.
+    /// `None` exactly where neither is there.
+    #[tactic(auto, unfolding(crate::specs::Routing::endpoint_of))]
+    pub fn endpoint_of(&self, kind: &TypeName) -> Option<&Endpoint>
+        ensures { option_copied result ≡ endpoint_of self.now kind.now }
+    {
+        let endpoints = self.module.endpoints.as_slice();
+        match exact_endpoint(endpoints, kind) {
+            Some(endpoint) => Some(endpoint),
+            None => wide_endpoint(endpoints, kind),
+        }
+    }
+
+    /// The URL at which functions of a type are called: the template of its endpoint, with each `{function.name}`
+    /// replaced by the type's name. `None` exactly where it has no endpoint.
+    #[tactic(auto, unfolding(crate::specs::Routing::url_of))]
+    pub fn url_of(&self, alloc: Global, kind: &TypeName) -> Mem<Option<Text>>
+        ensures { IfOk result (λ url. url ≡ url_of self.now kind.now) }
+    {
+        match self.endpoint_of(kind) {
+            Some(endpoint) => Ok(Some(filled(
+                alloc,
+                endpoint.template.as_str(),
+                kind.name.as_str(),
+            )?)),
+            None => Ok(None),
+        }
+    }
+
+    /// The types to which the records of a split go. The split is one of the module's.
+    #[tactic(auto, unfolding(crate::specs::Routing::targets_of, crate::specs::Routing::ingress_of))]
+    pub fn targets_of(&self, split: u32) -> &List<TypeName>
+        requires { split < splits_in self.now.ingresses }
+        ensures { result.now ≡ targets_of self.now split }
+    {
+        &ingress_at(self.module.ingresses.as_slice(), split).targets
+    }
+
+    /// A record of a split as letters, one for each target in order. The split is one of the module's.
+    #[tactic(auto, unfolding(crate::specs::Routing::letters_of, crate::specs::Routing::ingress_of))]
+    pub fn letters(&self, alloc: Global, split: u32, taken: &IngressRecord) -> Mem<List<Letter>>
+        requires { split < splits_in self.now.ingresses }
+        ensures { IfOk result (λ letters. letters ≡ letters_of self.now split taken.now) }
+    {
+        let ingress = ingress_at(self.module.ingresses.as_slice(), split);
+        letters_to(
+            alloc,
+            split,
+            &ingress.value_type,
+            taken,
+            ingress.targets.as_slice(),
+        )
+    }
+}
+
+/// The ingress to which a split belongs.
+fn ingress_at<'a>(ingresses: &'a [IngressSpec], split: u32) -> &'a IngressSpec
+    requires { split < splits_in ingresses.now }
+    ensures { Some result.now ≡ ingress_in ingresses.now split }
+{
+    let mut left = split;
+    for ingress in ingresses {
+        if left < ingress.splits {
+            return ingress;
+        }
+        left -= ingress.splits;
+    }
+    unreachable!()
+}
+
+/// A record as the letter to one target.
+fn letter_to(
+    alloc: Global,
+    split: u32,
+    value_type: &Text,
+    taken: &IngressRecord,
+    target: &TypeName,
+) -> Mem<Letter>
+    ensures { IfOk result (λ letter. letter ≡ letter_of split value_type.now taken.now target.now) }
+{
+    let address = Address {
+        kind: target.try_clone(alloc)?,
+        id: taken.key.try_clone(alloc)?,
+    };
+    let argument = TypedValue {
+        typename: value_type.try_clone(alloc)?,
+        has_value: true,
+        value: taken.value.try_clone(alloc)?,
+    };
+    Ok(Letter {
+        sender: Sender::Split(split),
+        target: address,
+        argument,
+    })
+}
+
+fn letters_to(
+    alloc: Global,
+    split: u32,
+    value_type: &Text,
+    taken: &IngressRecord,
+    targets: &[TypeName],
+) -> Mem<List<Letter>>
+    ensures { IfOk result (λ letters. letters ≡ map (letter_of split value_type.now taken.now) targets.now) }
+{
+    let mut letters = List::new(alloc);
+    for target in targets {
+        letters.push(letter_to(alloc, split, value_type, taken, target)?)?;
+    }
+    Ok(letters)
+}
+
+/// A template with each `{function.name}` in it replaced by the name.
+fn filled(alloc: Global, template: &str, name: &str) -> Mem<Text>
+    ensures { IfOk result (λ text. text ≡ filled name.now template.now) }
+{
+    let mut made = Text::new(alloc);
+    let mut rest = template;
+    'parts: while let Some((before, after)) = rest.split_once("{function.name}") {
+        made.append(before)?;
+        made.append(name)?;
+        rest = after;
+    }
+    made.append(rest)?;
+    Ok(made)
+}
+
+/// Whether an endpoint is for this very name.
+fn is_exact(kind: &TypeName, endpoint: &Endpoint) -> bool
+    ensures { result ≡ is_exact kind.now endpoint.now }
+{
+    match &endpoint.pattern.name {
+        Some(name) => name.is_same(&kind.name)
+            && endpoint.pattern.namespace.is_same(&kind.namespace),
+        None => false,
+    }
+}
+
+/// Whether an endpoint is for all names of the name's namespace.
+fn is_wide(kind: &TypeName, endpoint: &Endpoint) -> bool
+    ensures { result ≡ is_wide kind.now endpoint.now }
+{
+    match &endpoint.pattern.name {
+        Some(_) => false,
+        None => endpoint.pattern.namespace.is_same(&kind.namespace),
+    }
+}
+
+fn exact_endpoint<'a>(endpoints: &'a [Endpoint], kind: &TypeName) -> Option<&'a Endpoint>
+    ensures { option_copied result ≡ find (is_exact kind.now) endpoints.now }
+{
+    endpoints.iter().find(|endpoint| is_exact(kind, endpoint))
+}
+
+fn wide_endpoint<'a>(endpoints: &'a [Endpoint], kind: &TypeName) -> Option<&'a Endpoint>
+    ensures { option_copied result ≡ find (is_wide kind.now) endpoints.now }
+{
+    endpoints.iter().find(|endpoint| is_wide(kind, endpoint))
+}

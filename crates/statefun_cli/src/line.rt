@@ -1,0 +1,138 @@
+//! The statuses and lines of ends.
+ghost use Rattle.std.specs.Prelude.{◌≡◌, [], ◌∷◌, ◌++◌, codes, OnOk, OnErr};
+ghost use Rattle.std.specs.Fmt.{decimal};
+ghost use Rattle.run_record.specs.Egress.{StartsAs, address_text};
+ghost use Rattle.statefun_cli.specs.Ends.{status_of, flaw_name, reason_text, reasons_text, end_line};
+
+use crate::PlainEnd;
+use proto_wire::{Bytes, Mem};
+use request_reply::{FlawKind, Reason};
+use run_record::put_address;
+use std::alloc::Global;
+use typed_values::Address;
+
+impl PlainEnd {
+    /// The status with which the program ends.
+    pub fn status(&self) -> u8
+        ensures { result ≡ status_of self.now }
+    {
+        match self {
+            PlainEnd::Done { .. } => 0,
+            PlainEnd::Usage { .. } => 2,
+            PlainEnd::TurnsSpent { .. } => 5,
+            PlainEnd::EndpointFailed { .. } => 6,
+            PlainEnd::IngressFault => 9,
+            PlainEnd::SinkFault => 11,
+            PlainEnd::LinkFault => 12,
+            PlainEnd::OutOfMemory => 15,
+        }
+    }
+
+    /// Adds the line of this end, with its line feed, of a run with at most so many turns; a sink that failed and want of
+    /// memory have none. An `Err` leaves what stood there with a part of the line behind it.
+    pub fn put_line(&self, alloc: Global, into: &mut Bytes, turns: u64) -> Mem<()>
+        ensures ok { OnOk result (into.new ≡ into.old ++ end_line self.now turns) }
+        ensures err { OnErr result (StartsAs into.old into.new) }
+    {
+        match self {
+            PlainEnd::Done { taken } => put_count(alloc, into, b"done taken ", *taken),
+            PlainEnd::Usage { word } => put_count(alloc, into, b"usage word ", u64::from(*word)),
+            PlainEnd::TurnsSpent { taken } => {
+                into.append(b"turns ")?;
+                put_decimal(alloc, into, turns)?;
+                put_count(alloc, into, b" taken ", *taken)
+            }
+            PlainEnd::EndpointFailed { address, reasons } => put_failed(
+                alloc,
+                into,
+                address,
+                reasons.as_slice(),
+            ),
+            PlainEnd::IngressFault => into.append(b"ingress fault\n"),
+            PlainEnd::LinkFault => into.append(b"link fault\n"),
+            PlainEnd::SinkFault => Ok(()),
+            PlainEnd::OutOfMemory => Ok(()),
+        }
+    }
+}
+
+/// Adds words, a number and a line feed.
+fn put_count(alloc: Global, into: &mut Bytes, words: &[u8], number: u64) -> Mem<()>
+    ensures ok { OnOk result (into.new ≡ into.old ++ (words.now ++ (decimal number ++ 10 ∷ []))) }
+    ensures err { OnErr result (StartsAs into.old into.new) }
+{
+    into.append(words)?;
+    put_decimal(alloc, into, number)?;
+    into.push(b'\n')?;
+    Ok(())
+}
+
+fn put_failed(alloc: Global, into: &mut Bytes, address: &Address, reasons: &[Reason]) -> Mem<()>
+    ensures ok { OnOk result (into.new ≡ into.old ++ (codes "endpoint failed " ++ (address_text address.now ++ (reasons_text reasons.now ++ 10 ∷ [])))) }
+    ensures err { OnErr result (StartsAs into.old into.new) }
+{
+    into.append(b"endpoint failed ")?;
+    put_address(into, address)?;
+    put_reasons(alloc, into, reasons)?;
+    into.push(b'\n')?;
+    Ok(())
+}
+
+fn put_reasons(alloc: Global, into: &mut Bytes, reasons: &[Reason]) -> Mem<()>
+    ensures ok { OnOk result (into.new ≡ into.old ++ reasons_text reasons.now) }
+    ensures err { OnErr result (StartsAs into.old into.new) }
+{
+    for reason in reasons {
+        put_reason(alloc, into, reason)?;
+    }
+    Ok(())
+}
+
+fn put_reason(alloc: Global, into: &mut Bytes, reason: &Reason) -> Mem<()>
+    ensures ok { OnOk result (into.new ≡ into.old ++ reason_text reason.now) }
+    ensures err { OnErr result (StartsAs into.old into.new) }
+{
+    match reason {
+        Reason::Lost(code) => {
+            into.append(b" lost:")?;
+            put_decimal(alloc, into, u64::from(*code))
+        }
+        Reason::Late => into.append(b" late"),
+        Reason::Refused { flaw, .. } => {
+            into.append(b" refused:")?;
+            into.append(flaw_name(flaw.kind).as_bytes())?;
+            into.push(b':')?;
+            put_decimal(alloc, into, u64::from(flaw.index))
+        }
+    }
+}
+
+/// The name of a flaw.
+fn flaw_name(kind: FlawKind) -> &'static str
+    ensures { result.now ≡ flaw_name kind }
+{
+    match kind {
+        FlawKind::Wire => "Wire",
+        FlawKind::BadMutation => "BadMutation",
+        FlawKind::UnknownName => "UnknownName",
+        FlawKind::TypeDiffers => "TypeDiffers",
+        FlawKind::TooLarge => "TooLarge",
+        FlawKind::NoEndpoint => "NoEndpoint",
+        FlawKind::NegativeDelay => "NegativeDelay",
+        FlawKind::EmptyToken => "EmptyToken",
+        FlawKind::UnknownEgress => "UnknownEgress",
+        FlawKind::BadExpiry => "BadExpiry",
+        FlawKind::TooMany => "TooMany",
+        FlawKind::NoNewName => "NoNewName",
+        FlawKind::NotBuilt => "NotBuilt",
+    }
+}
+
+/// Adds a number in decimal. An `Err` changes nothing.
+pub fn put_decimal(alloc: Global, into: &mut Bytes, number: u64) -> Mem<()>
+    ensures ok { OnOk result (into.new ≡ into.old ++ decimal number) }
+    ensures err { OnErr result (into.new ≡ into.old) }
+{
+    let text = number.to_string(alloc)?;
+    into.append(text.as_str().as_bytes())
+}

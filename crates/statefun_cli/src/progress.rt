@@ -1,0 +1,212 @@
+//! One run's own state, and what a turn does to it.
+ghost use Rattle.std.specs.Prelude.{◌≡◌, ◌<◌, ◌≤◌, ◌+◌, ◌^◌, [], ◌∷◌, ◌++◌, map, List, OnOk, OnErr, Some, true, false, ◌⊎◌};
+ghost use Rattle.typed_values.specs.declared.letter.Letter.{Letter};
+ghost use Rattle.sf_outside.specs.declared.call.LinkEvent.{LinkEvent};
+ghost use Rattle.request_reply.specs.declared.judging.Judged.TheVariants.{Accept};
+ghost use Rattle.run_record.specs.Routing.{splits_in};
+ghost use Rattle.run_record.specs.Egress.{egress_record, egress_text};
+ghost use Rattle.statefun_cli.specs.Turns.{call_in, batch_of_picks};
+
+use crate::PlainEnd;
+use proto_wire::{Bytes, List, Mem};
+use request_reply::{EgressMessage, InvocationResponse, Judged, Reason, judge};
+use run_record::{Entry, Reply, Routes, Step, put_answer_text};
+use sf_outside::{Answered, Call, IngressRecord};
+use std::alloc::Global;
+use std::collections::VecDeque;
+use typed_values::{Address, Letter, Sender};
+
+/// What a run has done so far, and the letters that wait.
+#[derive(Drop)]
+pub(crate) struct Progress {
+    /// How many records were taken.
+    pub(crate) taken: u64,
+    /// The letters that wait, the one that has waited longest first.
+    pub(crate) waiting: VecDeque<Letter>,
+    /// The record of the steps.
+    pub(crate) entries: List<Entry>,
+    /// The record's egress text.
+    pub(crate) text: Bytes,
+}
+
+/// The number of a turn's call.
+pub(crate) fn call_in(turn: u64) -> Call
+    ensures { result ≡ call_in turn }
+{
+    Call {
+        leg: turn,
+        partition: 0,
+        turn: 0,
+    }
+}
+
+impl Progress {
+    ghost use Rattle.statefun_cli.specs.Turns.{no_work, work_read, fated_turn, judged_turn, batch_entry, status_at};
+    ghost use Rattle.statefun_cli.specs.Progress.{work_of, IsTextOf, IsTurnText, UnlessMemory, IsTurnEnd, IsCalm, ends_lost, tells_lost, with_front, fate_told, status_of};
+
+    /// A run that has done nothing.
+    pub(crate) fn new(alloc: Global) -> Progress
+        ensures work { work_of result ≡ no_work }
+        ensures text { result.text ≡ [] }
+    {
+        Progress {
+            taken: 0,
+            waiting: VecDeque::new(alloc),
+            entries: List::new(alloc),
+            text: Bytes::new(alloc),
+        }
+    }
+
+    /// Takes the record that was read, where there is one: it becomes letters, which wait behind the others. An `Err`
+    /// leaves the record of the steps as it was.
+    pub(crate) fn take(
+        &mut self,
+        alloc: Global,
+        routes: &Routes,
+        turn: u64,
+        read: &Option<IngressRecord>,
+    ) -> Mem<()>
+        requires split { 0 < splits_in routes.now.ingresses }
+        requires room { self.old.taken < 2 ^ 63 }
+        ensures ok { OnOk result (work_of self.new ≡ work_read routes.now turn read.now (work_of self.old)) }
+        ensures err { OnErr result (self.new.entries ≡ self.old.entries) }
+        ensures text { self.new.text ≡ self.old.text }
+        ensures taken { self.new.taken ≤ self.old.taken + 1 }
+    {
+        let Some(record) = read else {
+            return Ok(());
+        };
+        let mut letters = VecDeque::from(routes.letters(alloc, 0, record)?.into_vec());
+        self.waiting.append(&mut letters)?;
+        self.entries.push(Entry {
+            leg: turn,
+            stamp: 1,
+            node: 0,
+            step: Step::Take(0),
+        })?;
+        self.taken += 1;
+        Ok(())
+    }
+
+    // An accepted answer takes effect: its batch is recorded, and its egress is added to the text. An `Err` leaves
+    // the record of the steps as it was.
+    fn accept(
+        &mut self,
+        turn: u64,
+        read: &Option<IngressRecord>,
+        picks: List<Sender>,
+        target: Address,
+        answer: Bytes,
+        messages: &[EgressMessage],
+    ) -> Mem<()>
+        ensures ok { OnOk result (self.new.entries ≡ self.old.entries ++ batch_of_picks turn read.now picks target answer ∷ []) }
+        ensures text { OnOk result (self.new.text ≡ self.old.text ++ egress_text (map (egress_record target) messages.now)) }
+        ensures rest { (self.new.taken ≡ self.old.taken) × (self.new.waiting.items ≡ self.old.waiting.items) }
+        ensures err { OnErr result (self.new.entries ≡ self.old.entries) }
+    {
+        put_answer_text(&mut self.text, &target, messages)?;
+        self.entries.push(Entry {
+            leg: turn,
+            stamp: if read.is_some() { 2 } else { 1 },
+            node: 1,
+            step: Step::Batch(Reply {
+                call: call_in(turn),
+                address: target,
+                moment: 0,
+                picks,
+                answer,
+            }),
+        })?;
+        Ok(())
+    }
+
+    /// What was told of a call takes effect, after all its polls. `None` where the run goes on.
+    pub(crate) fn settle(
+        &mut self,
+        alloc: Global,
+        routes: &Routes,
+        turn: u64,
+        read: &Option<IngressRecord>,
+        sender: Sender,
+        target: Address,
+        told: Option<Answered>,
+    ) -> Option<PlainEnd>
+        ensures end { (letter : Letter) (events : List LinkEvent) →
+            IsTurnEnd (fated_turn routes.now turn read.now sender target self.old.waiting.items (with_front letter (work_of self.old)) events (fate_told told)) (work_of self.new) result }
+        ensures text { IsTextOf routes.now self.old.text self.old.entries → IsTurnText routes.now self.new.text self.new.entries result }
+        ensures calm { IsCalm result }
+        ensures lost { ends_lost result ≡ true → tells_lost told ≡ true }
+        ensures taken { self.new.taken ≡ self.old.taken }
+    {
+        let reason = match told {
+            None => Reason::Late,
+            Some(Answered::Lost(note)) => Reason::Lost(note),
+            Some(Answered::Answer(answer)) => {
+                match judge(alloc, answer.as_slice(), &routes.module().egresses) {
+                    Err(_) => return Some(PlainEnd::OutOfMemory),
+                    Ok(Judged::Flaw(flaw)) => Reason::Refused { answer, flaw },
+                    Ok(Judged::Accept(response)) => {
+                        return self.served(alloc, turn, read, sender, target, answer, response);
+                    }
+                }
+            }
+        };
+        Some(failed(alloc, target, reason))
+    }
+
+    // The batch of a letter was served.
+    fn served(
+        &mut self,
+        alloc: Global,
+        turn: u64,
+        read: &Option<IngressRecord>,
+        sender: Sender,
+        target: Address,
+        answer: Bytes,
+        response: InvocationResponse,
+    ) -> Option<PlainEnd>
+        ensures end { (letter : Letter) (events : List LinkEvent) →
+            IsTurnEnd (judged_turn turn read.now sender target self.old.waiting.items answer (with_front letter (work_of self.old)) events (Accept response)) (work_of self.new) result }
+        ensures text { UnlessMemory result (self.new.text ≡ self.old.text ++ egress_text (map (egress_record target) response.outgoing_egresses)) }
+        ensures calm { IsCalm result }
+        ensures entries { UnlessMemory result (self.new.entries ≡ self.old.entries ++ batch_entry turn read.now sender target answer ∷ []) }
+        ensures lost { ends_lost result ≡ false }
+        ensures taken { self.new.taken ≡ self.old.taken }
+    {
+        let Ok(picks) = vec![in alloc; sender] else {
+            return Some(PlainEnd::OutOfMemory);
+        };
+        let messages = response.outgoing_egresses.as_slice();
+        if self
+            .accept(turn, read, List::of(picks), target, answer, messages)
+            .is_err()
+        {
+            return Some(PlainEnd::OutOfMemory);
+        }
+        self.end_at(read)
+    }
+
+    // The run is done where the read found nothing and no letter is left.
+    pub(crate) fn end_at(&self, read: &Option<IngressRecord>) -> Option<PlainEnd>
+        ensures { status_at read.now (work_of self.now) ≡ status_of result }
+    {
+        if read.is_none() && self.waiting.is_empty() {
+            Some(PlainEnd::Done { taken: self.taken })
+        } else {
+            None
+        }
+    }
+}
+
+// The end at a failed attempt.
+fn failed(alloc: Global, address: Address, reason: Reason) -> PlainEnd
+    ensures { (result ≡ PlainEnd.EndpointFailed address (reason ∷ [])) ⊎ (result ≡ PlainEnd.OutOfMemory) }
+{
+    match vec![in alloc; reason] {
+        Ok(reasons) => PlainEnd::EndpointFailed {
+            address,
+            reasons: List::of(reasons),
+        },
+        Err(_) => PlainEnd::OutOfMemory,
+    }
+}
