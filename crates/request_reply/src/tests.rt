@@ -1,10 +1,8 @@
-ghost use Rattle.std.specs.Prelude.{◌≤◌, length};
-
 use super::*;
-use proto_wire::{Bytes, DecodeFault, List, Text, WireFault, WireKind};
+use proto_wire::{DecodeFault, List, Mem, Text, WireFault, WireKind};
 use std::alloc::Global;
 use std::test::Fail;
-use typed_values::{Address, Letter, Sender, TypeName, text_value};
+use typed_values::TypeName;
 
 /// Answers, and how they are spelled again.
 const ANSWERS: [(&[u8], &[u8]); 33] = [
@@ -173,10 +171,24 @@ const FAULTS: [(&[u8], WireKind, usize); 33] = [
     (b"\x80\x80\x80\x80\x10", WireKind::TagTooLarge, 0),
 ];
 
+/// The table, without its rows for the proofs of the tests.
+fn answers() -> &'static [(&'static [u8], &'static [u8])] {
+    &ANSWERS
+}
+
+/// The table, without its rows for the proofs of the tests.
+fn faults() -> &'static [(&'static [u8], WireKind, usize)] {
+    &FAULTS
+}
+
+fn valid() -> &'static [u8] {
+    VALID
+}
+
 #[test]
 fn spelled_again(rt: HostRuntime) -> Result<(), Fail> {
     let alloc = rt.alloc();
-    for (input, want) in &ANSWERS {
+    for (input, want) in answers() {
         let value = decode_from(alloc, input).ok().ok_or("no answer")?;
         let bytes = encode_from(alloc, &value)?;
         assert_eq!(rt; bytes.as_slice(), *want);
@@ -188,7 +200,7 @@ fn spelled_again(rt: HostRuntime) -> Result<(), Fail> {
 #[test]
 fn first_faults(rt: HostRuntime) {
     let alloc = rt.alloc();
-    for (input, kind, at) in &FAULTS {
+    for (input, kind, at) in faults() {
         match decode_from(alloc, input) {
             Err(DecodeFault::Wire(fault)) => {
                 assert_eq!(rt;
@@ -204,144 +216,50 @@ fn first_faults(rt: HostRuntime) {
     }
 }
 
-/// The input in two pieces, cut at a place.
-fn cut_at(alloc: Global, input: &[u8], at: usize) -> Result<FromFunction, DecodeFault>
-    requires { at ≤ length input.now }
-{
-    let (front, back) = input.split_at(at);
-    let mut feeder = Feeder::new(alloc, input.len() as u64);
-    feeder.feed(front)?;
-    feeder.feed(back)?;
-    feeder.finish_from()
+/// What is wrong with an answer, if anything.
+fn flaw_of(alloc: Global, answer: &[u8], egresses: &List<TypeName>) -> Mem<Option<Flaw>> {
+    match judge(alloc, answer, egresses)? {
+        Judged::Flaw(flaw) => Ok(Some(flaw)),
+        Judged::Accept(_response) => Ok(None),
+    }
 }
 
-#[test]
-fn every_cut(rt: HostRuntime) -> Result<(), Fail> {
-    let alloc = rt.alloc();
-    for (input, _) in &ANSWERS {
-        let whole = decode_from(alloc, input).ok().ok_or("no answer")?;
-        for at in 0..input.len() {
-            let value = cut_at(alloc, input, at).ok().ok_or("no answer")?;
-            assert!(rt; value == whole);
-        }
-    }
-    for (input, kind, at) in &FAULTS {
-        for cut in 0..input.len() {
-            match cut_at(alloc, input, cut) {
-                Err(DecodeFault::Wire(fault)) => {
-                    assert_eq!(rt;
-                        fault,
-                        WireFault {
-                            kind: *kind,
-                            at: *at
-                        }
-                    );
-                }
-                _ => assert!(rt; false),
-            }
-        }
-    }
-    Ok(())
+fn greetings(alloc: Global) -> Mem<TypeName> {
+    Ok(TypeName {
+        namespace: Text::copy_of(alloc, "com.example")?,
+        name: Text::copy_of(alloc, "greetings")?,
+    })
 }
 
-#[test]
-fn pieces(rt: HostRuntime) -> Result<(), Fail> {
-    let alloc = rt.alloc();
-    let mut bytes = Vec::new(alloc);
-    for byte in VALID {
-        let mut piece = Bytes::new(alloc);
-        piece.push(*byte)?;
-        bytes.push(piece)?;
-    }
-    let whole = decode_from(alloc, VALID).ok().ok_or("no answer")?;
-    let value = decode_pieces_from(alloc, 64, &bytes)
-        .ok()
-        .ok_or("no answer")?;
-    assert!(rt; value == whole);
-    match decode_pieces_from(alloc, 63, &bytes) {
-        Err(DecodeFault::Wire(fault)) => {
-            assert_eq!(rt;
-                fault,
-                WireFault {
-                    kind: WireKind::OverLimit,
-                    at: 63
-                }
-            );
-        }
-        _ => assert!(rt; false),
-    }
-    Ok(())
+fn flaw(kind: FlawKind) -> Option<Flaw> {
+    Some(Flaw {
+        kind,
+        index: 0,
+        wire: None,
+    })
 }
-
-/// The request of one letter with the string `a`, for the address whose id is `a`.
-const REQUEST: &[u8] =
-    b"\xa2\x06\x40\x0a\x19\x0a\x0bcom.example\x12\x07greeter\x1a\x01a\x1a\x23\x12\x21\x0a\x18io.statefun.types/string\x10\x01\x1a\x03\x0a\x01a";
-
-#[test]
-fn requests(rt: HostRuntime) -> Result<(), Fail> {
-    let alloc = rt.alloc();
-    let request = decode_to(alloc, REQUEST).ok().ok_or("no request")?;
-    assert_eq!(rt; encode_to(alloc, &request)?.as_slice(), REQUEST);
-    assert_eq!(rt; size_to(&request), 67);
-    let mut feeder = Feeder::new(alloc, 67);
-    feeder.feed(REQUEST).ok().ok_or("too long")?;
-    let again = feeder.finish_to().ok().ok_or("no request")?;
-    assert!(rt; again == request);
-    let letter = Letter {
-        sender: Sender::Split(0),
-        target: Address {
-            kind: TypeName {
-                namespace: Text::copy_of(alloc, "com.example")?,
-                name: Text::copy_of(alloc, "greeter")?,
-            },
-            id: Text::copy_of(alloc, "a")?,
-        },
-        argument: text_value(alloc, &Text::copy_of(alloc, "a")?)?,
-    };
-    assert_eq!(rt; size_letter(&letter), 37);
-    Ok(())
-}
-
-const VALID: &[u8] =
-    b"\xa2\x06\x3d\x22\x3b\x0a\x0bcom.example\x12\x09greetings\x1a\x21\x0a\x18io.statefun.types/string\x10\x01\x1a\x03\x0a\x01a";
 
 #[test]
 fn judged(rt: HostRuntime) -> Result<(), Fail> {
     let alloc = rt.alloc();
     let mut egresses = List::new(alloc);
-    let unknown = Flaw {
-        kind: FlawKind::UnknownEgress,
-        index: 0,
-        wire: None,
-    };
-    let not_built = Flaw {
-        kind: FlawKind::NotBuilt,
-        index: 0,
-        wire: None,
-    };
-    match judge(alloc, VALID, &egresses)? {
-        Judged::Flaw(flaw) => assert_eq!(rt; flaw, unknown),
-        Judged::Accept(_) => assert!(rt; false),
-    }
-    egresses.push(TypeName {
-        namespace: Text::copy_of(alloc, "com.example")?,
-        name: Text::copy_of(alloc, "greetings")?,
-    })?;
-    match judge(alloc, VALID, &egresses)? {
-        Judged::Accept(response) => assert_eq!(rt; response.outgoing_egresses.len(), 1),
-        Judged::Flaw(_) => assert!(rt; false),
-    }
+    let unknown = flaw_of(alloc, valid(), &egresses)?;
+    assert_eq!(rt; unknown, flaw(FlawKind::UnknownEgress));
+    egresses.push(greetings(alloc)?)?;
+    assert_eq!(rt; flaw_of(alloc, valid(), &egresses)?, None);
     // an incomplete one; a fault; a varint that is not the shortest; a mutation
-    for answer in [
+    let others = [
         b"\xaa\x06\x00".as_slice(),
         b"\x08".as_slice(),
         b"\xa2\x06\x80\x00".as_slice(),
         b"\xa2\x06\x02\x0a\x00".as_slice(),
-    ] {
-        match judge(alloc, answer, &egresses)? {
-            Judged::Flaw(flaw) => assert_eq!(rt; flaw, not_built),
-            Judged::Accept(_) => assert!(rt; false),
-        }
+    ];
+    for answer in others {
+        let found = flaw_of(alloc, answer, &egresses)?;
+        assert_eq!(rt; found, flaw(FlawKind::NotBuilt));
     }
     Ok(())
 }
+
+const VALID: &[u8] =
+    b"\xa2\x06\x3d\x22\x3b\x0a\x0bcom.example\x12\x09greetings\x1a\x21\x0a\x18io.statefun.types/string\x10\x01\x1a\x03\x0a\x01a";
