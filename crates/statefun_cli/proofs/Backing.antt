@@ -188,12 +188,12 @@ module _ (kind : TypeName) (url value_type : List ℕ) (egress : TypeName) where
       let same = fated-events kind url value_type egress turn heard.read letter others work events fate in
       let whole : total ≡ past ++ (events ++ more) = is ∙ ap (λ (l : List LinkEvent). past ++ (l ++ more)) same in
       let only : Only (call_in turn) start (past ++ (events ++ more)) =
-        Only-append (call_in turn) start past (events ++ more) (only_below turn start past below)
-          (Only-append (call_in turn) start events more (λ e. refl, only_polls (call_in turn) start heard.polls) (only_from turn start more from)) in
+      Only-append (call_in turn) start past (events ++ more) (only_below turn start past below)
+      (Only-append (call_in turn) start events more (λ e. refl, only_polls (call_in turn) start heard.polls) (only_from turn start more from)) in
       fated_backs lists exchanges turn heard.read letter others work events fate front (subst AreShort same short).0
-        (λ answer told. own_exchange total exchanges (call_in turn) (unwrap_or (url_of job letter.target.kind) []) (to_spelling (request_for letter)) answer
-          (subst (Only (call_in turn) start) (sym whole) only)
-          (proper.answered (Answer answer) (told_is patience (length heard.polls) (own_outcome (call_in turn) heard.polls) (Answer answer) told))) b
+      (λ answer told. own_exchange total exchanges (call_in turn) (unwrap_or (url_of job letter.target.kind) []) (to_spelling (request_for letter)) answer
+      (subst (Only (call_in turn) start) (sym whole) only)
+      (proper.answered (Answer answer) (told_is patience (length heard.polls) (own_outcome (call_in turn) heard.polls) (Answer answer) told))) b
 
   asked_backs : (lists : Lists) (exchanges : List Exchange) (patience turn : ℕ) (heard : Heard) (work : Work) (waiting : List Letter) (past more total : List LinkEvent) → work.waiting ≡ waiting → AreShort (asked_turn job patience turn heard work waiting).events → LegsBelow turn past → LegsFrom (turn + 1) more
       → total ≡ past ++ ((asked_turn job patience turn heard work waiting).events ++ more) → IsProper patience turn (Some total) exchanges heard → Backs lists exchanges work → Backs lists exchanges (asked_turn job patience turn heard work waiting).work
@@ -216,7 +216,7 @@ module _ (kind : TypeName) (url value_type : List ℕ) (egress : TypeName) where
       both events e = subst (λ (l : List LinkEvent). LegsFrom turn l × LegsBelow (turn + 1) l) (sym e) ((omega arith, legs_polls turn heard.polls), (omega arith, below_polls (turn + 1) heard.polls))
 
       if_started : (b : Bool) → LegsFrom turn (cond b (fated_turn job turn heard.read letter.sender letter.target others work (start_of job turn letter ∷ map Polled heard.polls) (fate_of patience (call_in turn) heard.polls)) (record { work = work; events = []; status = Cut })).events
-        × LegsBelow (turn + 1) (cond b (fated_turn job turn heard.read letter.sender letter.target others work (start_of job turn letter ∷ map Polled heard.polls) (fate_of patience (call_in turn) heard.polls)) (record { work = work; events = []; status = Cut })).events
+          × LegsBelow (turn + 1) (cond b (fated_turn job turn heard.read letter.sender letter.target others work (start_of job turn letter ∷ map Polled heard.polls) (fate_of patience (call_in turn) heard.polls)) (record { work = work; events = []; status = Cut })).events
       if_started true = both _ (fated-events kind url value_type egress turn heard.read letter others work (start_of job turn letter ∷ map Polled heard.polls) (fate_of patience (call_in turn) heard.polls))
       if_started false = (tt, tt)
 
@@ -257,10 +257,10 @@ module _ (kind : TypeName) (url value_type : List ℕ) (egress : TypeName) where
       let grouped : split_of lists 0 ≡ done ++ (option_to_list heard.read ++ (records_heard later ++ rest)) = is ∙ ap (λ (l : List IngressRecord). done ++ l) (append_assoc (option_to_list heard.read) (records_heard later) rest) in
       let behind_it : split_of lists 0 ≡ (done ++ option_to_list heard.read) ++ (records_heard later ++ rest) = grouped ∙ sym (append_assoc done (option_to_list heard.read) (records_heard later ++ rest)) in
       on_backs lists exchanges turn first.status first (turns_from job patience (turn + 1) later) past total short (turns_legs patience (turn + 1) later first.work) events
-        (λ more s from whole. turn_backs lists exchanges patience turn heard work past more total (read_there kind url value_type egress lists work.taken done heard.read (records_heard later ++ rest) n grouped) s below from whole proper.0 b)
-        (λ s whole q. turns_back lists exchanges patience (turn + 1) later first.work (done ++ option_to_list heard.read) rest (past ++ first.events) total
-          (turned-taken job patience turn heard work ∙ omega (arith, n, length-append done (option_to_list heard.read))) behind_it s
-          (LegsBelow-append (turn + 1) past first.events (LegsBelow-more turn past below) (turn_legs patience turn heard work).1) whole proper.1 q)
+      (λ more s from whole. turn_backs lists exchanges patience turn heard work past more total (read_there kind url value_type egress lists work.taken done heard.read (records_heard later ++ rest) n grouped) s below from whole proper.0 b)
+      (λ s whole q. turns_back lists exchanges patience (turn + 1) later first.work (done ++ option_to_list heard.read) rest (past ++ first.events) total
+      (turned-taken job patience turn heard work ∙ omega (arith, n, length-append done (option_to_list heard.read))) behind_it s
+      (LegsBelow-append (turn + 1) past first.events (LegsBelow-more turn past below) (turn_legs patience turn heard work).1) whole proper.1 q)
 
   -- the record of turns is backed by what was exchanged
   pub run_backed : (lists : Lists) (exchanges : List Exchange) (patience : ℕ) (heard : List Heard) (rest : List IngressRecord) (past total : List LinkEvent) → split_of lists 0 ≡ records_heard heard ++ rest → AreShort (turns_of job patience heard).events → LegsBelow 1 past → total ≡ past ++ (turns_of job patience heard).events → AreProper patience 1 (Some total) exchanges heard

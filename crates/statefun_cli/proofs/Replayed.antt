@@ -50,7 +50,7 @@ plain_replayed m plain patience turns told before after exchanges entries end ru
     let made = run_replays plain.kind plain.url plain.value_type plain.egress told patience (run.whole ++ option_to_list run.last) run.reads.0 run.reads.1 run.short in
     let job = plain_module plain.kind plain.url plain.value_type plain.egress in
     front_of_run job told entries (turns_of job patience (run.whole ++ option_to_list run.last)).work.entries made.state
-      (entries_front (turns_of job patience (run.whole ++ option_to_list run.last)) turns _ entries end run.end_is) made.replays
+    (entries_front (turns_of job patience (run.whole ++ option_to_list run.last)) turns _ entries end run.end_is) made.replays
 
 -- where the ingress tells its lists, the record of a run replays over them
 pub run_replayed : (m : Module) → IsPlain m → (patience turns : ℕ) (lists : Option Lists) (before after : Option (List LinkEvent)) (exchanges : List Exchange) (entries : List Entry) (end : PlainEnd) → IsRun m patience turns lists before after exchanges entries end → IfSome lists (λ told. IsReplayed m told entries)
@@ -76,8 +76,10 @@ backed_after (Some next) P Q f h = f next h
 -- what backs a record backs a front of it
 front_backed : (exchanges : List Exchange) (m : Module) (lists : Lists) (st : State) (entries rest : List Entry) → AreBacked exchanges m lists st (entries ++ rest) → AreBacked exchanges m lists st entries
 front_backed exchanges m lists st [] rest h = tt
-front_backed exchanges m lists st (entry ∷ entries) rest h = (h.0,
-  backed_after (step_after m lists st entry.step) (λ next. AreBacked exchanges m lists next (entries ++ rest)) (λ next. AreBacked exchanges m lists next entries) (λ next. front_backed exchanges m lists next entries rest) h.1)
+front_backed exchanges m lists st (entry ∷ entries) rest h = (
+  h.0,
+  backed_after (step_after m lists st entry.step) (λ next. AreBacked exchanges m lists next (entries ++ rest)) (λ next. AreBacked exchanges m lists next entries) (λ next. front_backed exchanges m lists next entries rest) h.1,
+)
 
 plain_backed : (m : Module) (plain : IsPlain m) (patience turns : ℕ) (told : Lists) (past : List LinkEvent) (after : Option (List LinkEvent)) (exchanges : List Exchange) (entries : List Entry) (end : PlainEnd) → LegsBelow 1 past → IsRun (plain_module plain.kind plain.url plain.value_type plain.egress) patience turns (Some told) (Some past) after exchanges entries end
     → IsBackedRun (plain_module plain.kind plain.url plain.value_type plain.egress) told exchanges entries

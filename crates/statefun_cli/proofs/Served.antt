@@ -43,7 +43,7 @@ served_turn : (m : Module) (patience turn : ℕ) (heard : Heard) (work : Work) (
 served_turn m patience turn heard work letter others events s f =
     let fate = ap (fate_by patience (length heard.polls)) s.own in
     let is : fated_turn m turn heard.read letter.sender letter.target others work events (fate_of patience (call_in turn) heard.polls) ≡ judged_turn turn heard.read letter.sender letter.target others s.answer work events (Accept s.response) =
-      ap (fated_turn m turn heard.read letter.sender letter.target others work events) fate ∙ ap (judged_turn turn heard.read letter.sender letter.target others s.answer work events) s.valid in
+    ap (fated_turn m turn heard.read letter.sender letter.target others work events) fate ∙ ap (judged_turn turn heard.read letter.sender letter.target others s.answer work events) s.valid in
     calm_status heard.read (judged_turn turn heard.read letter.sender letter.target others s.answer work events (Accept s.response)).work (subst (λ (t : Turned). Fails t.status) is f)
 
 served_asked : (m : Module) (patience turn : ℕ) (heard : Heard) (work : Work) (waiting : List Letter) → (heard.started ≡ true → IsServed m turn heard) → Fails (asked_turn m patience turn heard work waiting).status → ⊥

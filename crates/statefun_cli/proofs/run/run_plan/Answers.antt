@@ -30,7 +30,7 @@ returns-in_default-clause-replays g c = none_replayed c.args.plan.module _ c.out
 pub returns-clause-replays : goal.returns-clause-replays
 returns-clause-replays g c =
     run_replayed c.args.plan.module c.requires.plain PATIENCE c.args.plan.turns (g.I.Ingress.lists c.drive-end.new.ingress) (g.L.Link.journal c.args.link.now) (g.L.Link.journal c.drive-end.new.link) (g.L.Link.exchanges c.drive-end.new.link) c.drive-end.new.progress.entries c.drive-end.result
-      (subst (λ (m : Module). IsRun m PATIENCE c.args.plan.turns (g.I.Ingress.lists c.drive-end.new.ingress) (g.L.Link.journal c.args.link.now) (g.L.Link.journal c.drive-end.new.link) (g.L.Link.exchanges c.drive-end.new.link) c.drive-end.new.progress.entries c.drive-end.result) c.in-Ok.ensures c.drive-end.ensures.run)
+    (subst (λ (m : Module). IsRun m PATIENCE c.args.plan.turns (g.I.Ingress.lists c.drive-end.new.ingress) (g.L.Link.journal c.args.link.now) (g.L.Link.journal c.drive-end.new.link) (g.L.Link.exchanges c.drive-end.new.link) c.drive-end.new.progress.entries c.drive-end.result) c.in-Ok.ensures c.drive-end.ensures.run)
 
 pub returns-in_default-clause-backed : goal.returns-in_default-clause-backed
 returns-in_default-clause-backed g c = none_backed c.args.plan.module _ _ _ c.out_of_memory.result.entries c.out_of_memory.ensures.entries
@@ -38,7 +38,7 @@ returns-in_default-clause-backed g c = none_backed c.args.plan.module _ _ _ c.ou
 pub returns-clause-backed : goal.returns-clause-backed
 returns-clause-backed g c =
     run_is_backed c.args.plan.module c.requires.plain PATIENCE c.args.plan.turns (g.I.Ingress.lists c.drive-end.new.ingress) (g.L.Link.journal c.args.link.now) (g.L.Link.journal c.drive-end.new.link) (g.L.Link.exchanges c.drive-end.new.link) c.drive-end.new.progress.entries c.drive-end.result
-      (subst (λ (m : Module). IsRun m PATIENCE c.args.plan.turns (g.I.Ingress.lists c.drive-end.new.ingress) (g.L.Link.journal c.args.link.now) (g.L.Link.journal c.drive-end.new.link) (g.L.Link.exchanges c.drive-end.new.link) c.drive-end.new.progress.entries c.drive-end.result) c.in-Ok.ensures c.drive-end.ensures.run)
+    (subst (λ (m : Module). IsRun m PATIENCE c.args.plan.turns (g.I.Ingress.lists c.drive-end.new.ingress) (g.L.Link.journal c.args.link.now) (g.L.Link.journal c.drive-end.new.link) (g.L.Link.exchanges c.drive-end.new.link) c.drive-end.new.progress.entries c.drive-end.result) c.in-Ok.ensures c.drive-end.ensures.run)
 
 pub returns-in_default-clause-complete : goal.returns-in_default-clause-complete
 returns-in_default-clause-complete g c = none_complete c.args.plan.module _ _ (counts_of (g.I.Ingress.faults c.args.ingress.now) (g.L.Link.faults c.args.link.now) (g.L.Link.losses c.args.link.now)) _ c.out_of_memory.result.end c.out_of_memory.ensures.end
@@ -46,4 +46,4 @@ returns-in_default-clause-complete g c = none_complete c.args.plan.module _ _ (c
 pub returns-clause-complete : goal.returns-clause-complete
 returns-clause-complete g c =
     complete_run c.args.plan.module PATIENCE c.args.plan.turns (g.I.Ingress.lists c.drive-end.new.ingress) (g.L.Link.journal c.args.link.now) (g.L.Link.journal c.drive-end.new.link) (g.L.Link.exchanges c.drive-end.new.link) (g.O.Sink.written c.args.out.now) (g.O.Sink.written c.tell.new.out)
-      (counts_of (g.I.Ingress.faults c.args.ingress.now) (g.L.Link.faults c.args.link.now) (g.L.Link.losses c.args.link.now)) (counts_of (g.I.Ingress.faults c.drive-end.new.ingress) (g.L.Link.faults c.drive-end.new.link) (g.L.Link.losses c.drive-end.new.link)) (g.O.Sink.faults c.args.out.now) (g.O.Sink.faults c.tell.new.out) c.drive-end.new.progress.entries c.tell.result (returns-clause-ran g c) c.tell.ensures.cause
+    (counts_of (g.I.Ingress.faults c.args.ingress.now) (g.L.Link.faults c.args.link.now) (g.L.Link.losses c.args.link.now)) (counts_of (g.I.Ingress.faults c.drive-end.new.ingress) (g.L.Link.faults c.drive-end.new.link) (g.L.Link.losses c.drive-end.new.link)) (g.O.Sink.faults c.args.out.now) (g.O.Sink.faults c.tell.new.out) c.drive-end.new.progress.entries c.tell.result (returns-clause-ran g c) c.tell.ensures.cause
