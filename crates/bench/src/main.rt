@@ -1,0 +1,45 @@
+//! The program `bench`: makes messages, and decodes and encodes them again and again. `bench/run` times it.
+#![tactic(auto)]
+
+mod answers;
+mod failure;
+mod letters;
+mod parts;
+mod requests;
+mod tally;
+mod words;
+
+use failure::Failure;
+use std::process::ExitCode;
+use tally::Tally;
+use words::{Work, asked};
+
+fn main(rt: HostRuntime) -> ExitCode {
+    match run(&rt) {
+        Ok(()) => ExitCode::SUCCESS,
+        Err(failure) => ExitCode::from(failure.status()),
+    }
+}
+
+/// Does the work that the words ask for, and prints its line.
+fn run(rt: &HostRuntime) -> Result<(), Failure> {
+    let task = asked(rt)?;
+    let tally = done(rt, task.work, task.count, task.rounds)?;
+    let work = task.work.word();
+    let count = task.count;
+    let rounds = task.rounds;
+    let bytes = tally.bytes;
+    let same = tally.word();
+    println!(rt; "{work} {count} {rounds} bytes {bytes} same {same}")?;
+    Ok(())
+}
+
+/// The rounds of one work.
+fn done(rt: &HostRuntime, work: Work, count: u32, rounds: u32) -> Result<Tally, Failure> {
+    let alloc = rt.alloc();
+    match work {
+        Work::Letters => letters::work(alloc, count, rounds),
+        Work::Request => requests::work(alloc, count, rounds),
+        Work::Answer => answers::work(alloc, count, rounds),
+    }
+}
