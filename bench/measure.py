@@ -2,7 +2,8 @@
 import os
 import sys
 import tempfile
-import time
+
+from timed import timed
 
 KEYS = 97
 MOST_RATIO = 11
@@ -44,20 +45,7 @@ def write_log(folder, records):
 
 def run(program, folder):
     """Runs the program in a folder. Gives its processor seconds, the seconds that passed and its peak memory in MiB."""
-    path = os.path.join(folder, "written")
-    with open(path, "wb") as written:
-        began = time.perf_counter()
-        child = os.posix_spawn(
-            program,
-            [program, *WORDS],
-            os.environ,
-            file_actions=[(os.POSIX_SPAWN_DUP2, written.fileno(), 1)],
-        )
-        _, status, used = os.wait4(child, 0)
-        seconds = time.perf_counter() - began
-    if os.waitstatus_to_exitcode(status) != 0:
-        sys.exit(f"bench: the run ended with status {os.waitstatus_to_exitcode(status)}")
-    return used.ru_utime + used.ru_stime, seconds, used.ru_maxrss / 1024
+    return timed(program, WORDS, os.path.join(folder, "written"))
 
 
 def check(folder, records):
