@@ -3,6 +3,7 @@
 
 mod answer;
 mod answer_messages;
+mod batch;
 mod feeder;
 mod flaw;
 mod judging;
@@ -14,6 +15,7 @@ pub use answer::{
     DelayedInvocation, EgressMessage, ExpirationSpec, FromFunction, IncompleteInvocationContext,
     InvocationResponse, OutgoingInvocation, PersistedValueMutation, PersistedValueSpec,
 };
+pub use batch::{Batch, Stop};
 pub use feeder::{Feeder, decode_pieces_from, decode_pieces_to};
 pub use flaw::{Flaw, FlawKind, Reason};
 pub use judging::{ANSWER_LIMIT, Judged, judge};

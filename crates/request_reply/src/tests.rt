@@ -1,5 +1,5 @@
 use super::*;
-use proto_wire::{DecodeFault, List, Mem, Text, WireFault, WireKind};
+use proto_wire::{Bytes, DecodeFault, List, Mem, Text, WireFault, WireKind};
 use std::alloc::Global;
 use std::test::Fail;
 use typed_values::TypeName;
@@ -263,3 +263,58 @@ fn judged(rt: HostRuntime) -> Result<(), Fail> {
 
 const VALID: &[u8] =
     b"\xa2\x06\x3d\x22\x3b\x0a\x0bcom.example\x12\x09greetings\x1a\x21\x0a\x18io.statefun.types/string\x10\x01\x1a\x03\x0a\x01a";
+
+/// The request of one letter with the string `a`, for the address whose id is `a`.
+const REQUEST: &[u8] =
+    b"\xa2\x06\x40\x0a\x19\x0a\x0bcom.example\x12\x07greeter\x1a\x01a\x1a\x23\x12\x21\x0a\x18io.statefun.types/string\x10\x01\x1a\x03\x0a\x01a";
+
+fn request_bytes() -> &'static [u8] {
+    REQUEST
+}
+
+fn is_again(read: Result<Bytes, DecodeFault>, want: &[u8]) -> bool {
+    match read {
+        Ok(bytes) => bytes.as_slice() == want,
+        Err(_fault) => false,
+    }
+}
+
+fn request_again(alloc: Global, bytes: &[u8]) -> Result<Bytes, DecodeFault> {
+    let request = decode_to(alloc, bytes)?;
+    Ok(encode_to(alloc, &request)?)
+}
+
+fn request_size(alloc: Global, bytes: &[u8]) -> Result<u64, DecodeFault> {
+    let request = decode_to(alloc, bytes)?;
+    Ok(size_to(&request))
+}
+
+/// The request in two pieces.
+fn request_in_two(
+    alloc: Global,
+    limit: u64,
+    front: &[u8],
+    back: &[u8],
+) -> Result<Bytes, DecodeFault> {
+    let mut feeder = Feeder::new(alloc, limit);
+    feeder.feed(front)?;
+    feeder.feed(back)?;
+    let request = feeder.finish_to()?;
+    Ok(encode_to(alloc, &request)?)
+}
+
+#[test]
+fn requests(rt: HostRuntime) {
+    let alloc = rt.alloc();
+    assert!(rt; is_again(request_again(alloc, request_bytes()), request_bytes()));
+    assert!(rt; request_size(alloc, request_bytes()) == Ok(67));
+}
+
+#[test]
+fn pieces(rt: HostRuntime) {
+    let alloc = rt.alloc();
+    let (front, back) = (b"\xa2\x06\x02\x0a".as_slice(), b"\x00".as_slice());
+    let whole = b"\xa2\x06\x02\x0a\x00".as_slice();
+    assert!(rt; is_again(request_in_two(alloc, 5, front, back), whole));
+    assert!(rt; !is_again(request_in_two(alloc, 4, front, back), whole));
+}

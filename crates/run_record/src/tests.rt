@@ -79,7 +79,9 @@ fn batch(alloc: Global, id: &str, moment: u64, picks: &[u32], answer: &[u8]) -> 
     }))
 }
 
-fn entry(leg: u64, stamp: u64, node: u32, step: Step) -> Entry {
+fn entry(leg: u64, stamp: u64, node: u32, step: Step) -> Entry
+    ensures { result.step ≡ step }
+{
     Entry {
         leg,
         stamp,
@@ -88,40 +90,57 @@ fn entry(leg: u64, stamp: u64, node: u32, step: Step) -> Entry {
     }
 }
 
+// A step, and whether it is allowed. A Take names the key of the record that its split has next.
+#[derive(Drop)]
+enum Row<'a> {
+    Take(u32, &'a str, bool),
+    End(u32),
+    Serve(&'a str, u64, &'a [u32], &'a [u8], bool),
+}
+
 fn take(
     rt: &impl Abort,
     alloc: Global,
     machine: &mut Machine,
     routes: &Routes,
     split: u32,
-    key: Option<&str>,
+    found: &IngressRecord,
 ) -> Mem<bool> {
-    assert!(rt; machine.taken(split) < 1000);
-    match key {
-        Some(key) => {
-            let found = record(alloc, key)?;
-            machine.apply(
-                alloc,
-                &entry(1, 0, split, Step::Take(split)),
-                Some(&found),
-                routes,
-            )
-        }
-        None => machine.apply(alloc, &entry(1, 0, split, Step::Take(split)), None, routes),
+    if machine.taken(split) >= 1000 {
+        panic!(rt; "too many takes");
     }
+    machine.apply(
+        alloc,
+        &entry(1, 0, split, Step::Take(split)),
+        Some(found),
+        routes,
+    )
 }
 
-fn serve(
+fn check_row(
+    rt: &impl Abort,
     alloc: Global,
     machine: &mut Machine,
     routes: &Routes,
-    id: &str,
-    moment: u64,
-    picks: &[u32],
-    answer: &[u8],
-) -> Mem<bool> {
-    let step = batch(alloc, id, moment, picks, answer)?;
-    machine.apply(alloc, &entry(1, 0, 2, step), None, routes)
+    row: &Row,
+) -> Mem<()> {
+    match row {
+        Row::Take(split, key, want) => {
+            let found = record(alloc, key)?;
+            let got = take(rt, alloc, machine, routes, *split, &found)?;
+            assert_eq!(rt; got, *want, "take of {key}");
+        }
+        Row::End(split) => {
+            let end = entry(1, 0, *split, Step::Take(*split));
+            assert!(rt; !machine.apply(alloc, &end, None, routes)?);
+        }
+        Row::Serve(id, moment, picks, answer, want) => {
+            let served = entry(1, 0, 2, batch(alloc, id, *moment, picks, answer)?);
+            let got = machine.apply(alloc, &served, None, routes)?;
+            assert_eq!(rt; got, *want, "batch for {id} at {moment}");
+        }
+    }
+    Ok(())
 }
 
 #[test]
@@ -129,69 +148,82 @@ fn steps_are_allowed_or_not(rt: HostRuntime) -> Result<(), Fail> {
     let alloc = rt.alloc();
     let routes = Routes::new(alloc, small_module(alloc)?)?;
     let mut machine = Machine::new(alloc, 2)?;
-    // past the end of the list, and past the splits
-    assert!(rt; !take(&rt, alloc, &mut machine, &routes, 0, None)?);
-    assert!(rt; !take(&rt, alloc, &mut machine, &routes, 2, Some("a"))?);
-    assert!(rt; take(&rt, alloc, &mut machine, &routes, 0, Some("a"))?);
-    assert!(rt; take(&rt, alloc, &mut machine, &routes, 1, Some("a"))?);
-    assert!(rt; take(&rt, alloc, &mut machine, &routes, 1, Some("b"))?);
-    assert_eq!(rt; machine.taken(0), 1);
-    assert_eq!(rt; machine.taken(1), 2);
-    // (id, moment, picks, answer, whether it is served)
-    let rows: [(&str, u64, &[u32], &[u8], bool); 11] = [
-        ("a", 5, &[], NOTHING, false),
-        ("a", 5, &[0, 0], NOTHING, false),
-        ("a", 5, &[0, 1, 1], NOTHING, false),
-        ("a", 5, &[0, 1], b"\xa2\x06", false),
-        ("c", 5, &[0], NOTHING, false),
-        ("a", 5, &[1, 0], NOTHING, true),
-        ("a", 5, &[0], NOTHING, false),
-        ("a", 5, &[1], NOTHING, false),
-        ("b", 4, &[1], NOTHING, true),
-        ("b", 3, &[1], NOTHING, false),
-        ("b", 4, &[1], NOTHING, false),
+    let rows = [
+        // past the end of the list, and past the splits
+        Row::End(0),
+        Row::Take(2, "a", false),
+        Row::Take(0, "a", true),
+        Row::Take(1, "a", true),
+        Row::Take(1, "b", true),
+        // no picks, letters that are not there, too many letters, an answer that is not valid
+        Row::Serve("a", 5, &[], NOTHING, false),
+        Row::Serve("a", 5, &[0, 0], NOTHING, false),
+        Row::Serve("a", 5, &[0, 1, 1], NOTHING, false),
+        Row::Serve("a", 5, &[0, 1], b"\xa2\x06", false),
+        Row::Serve("c", 5, &[0], NOTHING, false),
+        // picked letters are gone
+        Row::Serve("a", 5, &[1, 0], NOTHING, true),
+        Row::Serve("a", 5, &[0], NOTHING, false),
+        Row::Serve("a", 5, &[1], NOTHING, false),
+        // moments do not go back
+        Row::Serve("b", 4, &[1], NOTHING, true),
+        Row::Take(1, "b", true),
+        Row::Serve("b", 3, &[1], NOTHING, false),
+        Row::Serve("b", 4, &[1], NOTHING, true),
+        // the other order, and one letter at a time
+        Row::Take(1, "a", true),
+        Row::Take(0, "a", true),
+        Row::Take(0, "a", true),
+        Row::Serve("a", 6, &[0, 1], NOTHING, true),
+        Row::Serve("a", 6, &[0], NOTHING, true),
+        Row::Serve("a", 6, &[0], NOTHING, false),
     ];
-    for (id, moment, picks, answer, want) in rows {
-        let got = serve(alloc, &mut machine, &routes, id, moment, picks, answer)?;
-        assert_eq!(rt; got, want, "{id} at {moment}");
+    for row in &rows {
+        check_row(&rt, alloc, &mut machine, &routes, row)?;
     }
-    let address = Address {
-        kind: name(alloc, "f")?,
-        id: Text::copy_of(alloc, "a")?,
-    };
-    assert_eq!(rt; machine.seen(&address), 5);
-    // in the other order, and one letter at a time
-    assert!(rt; take(&rt, alloc, &mut machine, &routes, 1, Some("a"))?);
-    assert!(rt; take(&rt, alloc, &mut machine, &routes, 0, Some("a"))?);
-    assert!(rt; take(&rt, alloc, &mut machine, &routes, 0, Some("a"))?);
-    assert!(rt; serve(alloc, &mut machine, &routes, "a", 6, &[0, 1], NOTHING)?);
-    assert!(rt; serve(alloc, &mut machine, &routes, "a", 6, &[0], NOTHING)?);
-    assert!(rt; !serve(alloc, &mut machine, &routes, "a", 6, &[0], NOTHING)?);
+    assert_eq!(rt; machine.taken(1), 4);
     Ok(())
+}
+
+// The place at which a record stops, or the number of records of split 0 that it took.
+fn replayed_to(
+    rt: &impl Abort,
+    alloc: Global,
+    entries: &List<Entry>,
+    routes: &Routes,
+) -> Mem<(bool, u64)> {
+    let content = List::of(vec![in alloc; List::of(vec![in alloc; record(alloc, "a")?]?)]?);
+    let mut ingress = MemoryIngress::steady(alloc, content)?;
+    match replay(alloc, entries, routes, &mut ingress) {
+        Ok(Replayed::State(machine)) => Ok((true, machine.taken(0))),
+        Ok(Replayed::NotAllowed(place)) => Ok((false, place)),
+        Err(_) => panic!(rt; "no replay"),
+    }
 }
 
 #[test]
 fn a_record_replays(rt: HostRuntime) -> Result<(), Fail> {
     let alloc = rt.alloc();
     let routes = Routes::new(alloc, small_module(alloc)?)?;
-    let content = List::of(vec![in alloc; List::of(vec![in alloc; record(alloc, "a")?]?)]?);
-    let mut ingress = MemoryIngress::steady(alloc, content)?;
     let mut entries = List::new(alloc);
     entries.push(entry(1, 0, 0, Step::Take(0)))?;
     entries.push(entry(1, 1, 2, batch(alloc, "a", 3, &[0], NOTHING)?))?;
-    match replay(alloc, &entries, &routes, &mut ingress) {
-        Ok(Replayed::State(machine)) => assert_eq!(rt; machine.taken(0), 1),
-        _ => assert!(rt; false),
-    }
+    assert_eq!(rt; replayed_to(&rt, alloc, &entries, &routes)?, (true, 1));
     entries.push(entry(2, 0, 0, Step::Take(0)))?;
-    match replay(alloc, &entries, &routes, &mut ingress) {
-        Ok(Replayed::NotAllowed(place)) => assert_eq!(rt; place, 2),
-        _ => assert!(rt; false),
-    }
+    assert_eq!(rt; replayed_to(&rt, alloc, &entries, &routes)?, (false, 2));
+    Ok(())
+}
+
+#[test]
+fn a_read_that_fails_ends_a_replay(rt: HostRuntime) -> Result<(), Fail> {
+    let alloc = rt.alloc();
+    let routes = Routes::new(alloc, small_module(alloc)?)?;
+    let mut entries = List::new(alloc);
+    entries.push(entry(1, 0, 0, Step::Take(0)))?;
     let mut failing = MemoryIngress::new(alloc, List::new(alloc), List::of(vec![in alloc; 0u64]?))?;
     match replay(alloc, &entries, &routes, &mut failing) {
         Err(fault) => assert_eq!(rt; fault, ReplayFault::IngressFault),
-        _ => assert!(rt; false),
+        Ok(_) => panic!(rt; "a replay"),
     }
     Ok(())
 }

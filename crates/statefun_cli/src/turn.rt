@@ -18,6 +18,8 @@ use typed_values::Letter;
 /// After so many polls without its outcome a call is late.
 pub(crate) const PATIENCE: u32 = 1000;
 
+const _: () = prove!(PATIENCE == 1000);
+
 impl Progress {
     /// Makes a turn: the record that was read is taken, and the letter that has waited longest is asked for. `None`
     /// where the run goes on.
