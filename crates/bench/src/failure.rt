@@ -26,6 +26,16 @@ impl Failure {
             Failure::System => 5,
         }
     }
+
+    /// What is told of it.
+    pub(crate) fn text(self) -> &'static str {
+        match self {
+            Failure::Words => "the words are: letters|request|answer NUMBER ROUNDS",
+            Failure::Fault => "a message was not decoded",
+            Failure::OutOfMemory => "out of memory",
+            Failure::System => "the words could not be read, or the line not be written",
+        }
+    }
 }
 
 impl From<OutOfMemory> for Failure {

@@ -17,8 +17,15 @@ use words::{Work, asked};
 fn main(rt: HostRuntime) -> ExitCode {
     match run(&rt) {
         Ok(()) => ExitCode::SUCCESS,
-        Err(failure) => ExitCode::from(failure.status()),
+        Err(failure) => ended(&rt, failure),
     }
+}
+
+/// Tells a failure on standard error, and gives its status.
+fn ended(rt: &HostRuntime, failure: Failure) -> ExitCode {
+    let text = failure.text();
+    let _told = eprintln!(rt; "bench: {text}");
+    ExitCode::from(failure.status())
 }
 
 /// Does the work that the words ask for, and prints its line.
