@@ -9,8 +9,6 @@ mod output;
 mod polling;
 mod progress;
 mod run;
-#[cfg(test)]
-mod run_tests;
 mod turn;
 #[cfg(test)]
 mod word_tests;

@@ -35,7 +35,7 @@ const RIGHT: &str =
     "run com.example/greeter http://localhost:8000/{function.name} t/s com.example/greetings --turns 10";
 
 /// The words of a line.
-pub(crate) fn words_of(alloc: Global, line: &str) -> Mem<Vec<String>> {
+fn words_of(alloc: Global, line: &str) -> Mem<Vec<String>> {
     let mut words = Vec::new(alloc);
     for word in line.split(' ') {
         words.push(String::from_str(alloc, word)?)?;
