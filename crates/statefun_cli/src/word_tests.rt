@@ -3,7 +3,6 @@ use crate::{PlainEnd, Plan, WordsFault, put_decimal, read_words};
 use proto_wire::{Bytes, List, Mem, Text};
 use request_reply::{Flaw, FlawKind, Reason};
 use run_record::Routes;
-use sf_outside::IngressRecord;
 use std::alloc::Global;
 use std::test::Fail;
 use typed_values::{Address, TypeName};
@@ -81,15 +80,6 @@ fn right_words(rt: HostRuntime) -> Result<(), Fail> {
     assert_eq!(rt; url.as_str(), "http://localhost:8000/greeter");
     assert!(rt; routes.endpoint_of(&greeter).is_some());
     assert_eq!(rt; routes.module().egresses.len(), 1);
-    assert!(rt; routes.targets_of(0).as_slice() == [greeter].as_slice());
-    let taken = IngressRecord {
-        key: Text::copy_of(rt.alloc(), "a")?,
-        value: Bytes::copy_of(rt.alloc(), &[10, 1, 97])?,
-    };
-    let letters = routes.letters(rt.alloc(), 0, &taken)?.into_vec();
-    assert_eq!(rt; letters.len(), 1);
-    assert_eq!(rt; letters[0].target.id.as_str(), "a");
-    assert_eq!(rt; letters[0].argument.typename.as_str(), "t/s");
     Ok(())
 }
 
