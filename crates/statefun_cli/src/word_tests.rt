@@ -1,8 +1,7 @@
 //! The words and the texts of ends, by rows.
-use crate::{PlainEnd, Plan, WordsFault, put_decimal, read_words};
+use crate::{PlainEnd, WordsFault, put_decimal, read_words};
 use proto_wire::{Bytes, List, Mem, Text};
 use request_reply::{Flaw, FlawKind, Reason};
-use run_record::Routes;
 use std::alloc::Global;
 use std::test::Fail;
 use typed_values::{Address, TypeName};
@@ -29,9 +28,6 @@ const WRONG: &str = "0 walk a/b
 7 run a/b http://c d e/f --turns 1 2
 5 run a/b http://c d e/f --turns=
 6 run a/b http://c d e/f --turns=2 3";
-
-const RIGHT: &str =
-    "run com.example/greeter http://localhost:8000/{function.name} t/s com.example/greetings --turns 10";
 
 /// The words of a line.
 fn words_of(alloc: Global, line: &str) -> Mem<Vec<String>> {
@@ -66,20 +62,6 @@ fn wrong_words(rt: HostRuntime) -> Result<(), Fail> {
         let found = wrong_from(rt.alloc(), line)?;
         assert_eq!(rt; found, want, "{row}");
     }
-    Ok(())
-}
-
-#[test]
-fn right_words(rt: HostRuntime) -> Result<(), Fail> {
-    let words = words_of(rt.alloc(), RIGHT)?;
-    let Plan { module, turns } = read_words(rt.alloc(), words.as_slice())?;
-    assert_eq!(rt; turns, 10);
-    let routes = Routes::new(rt.alloc(), module)?;
-    let greeter = name(rt.alloc(), "com.example", "greeter")?;
-    let url = routes.url_of(rt.alloc(), &greeter)?.ok_or("no endpoint")?;
-    assert_eq!(rt; url.as_str(), "http://localhost:8000/greeter");
-    assert!(rt; routes.endpoint_of(&greeter).is_some());
-    assert_eq!(rt; routes.module().egresses.len(), 1);
     Ok(())
 }
 
