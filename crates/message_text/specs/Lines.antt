@@ -1,5 +1,5 @@
 -- The lines in which a message is printed for people: its parts in the message's order, one blank between the parts of a line, LF at its end.
-use Rattle.std.specs.Prelude.{ℕ, ℤ, pos, codes, List, [], ◌∷◌, ◌++◌, Option, None, Some, if◌then◌else◌}
+use Rattle.std.specs.Prelude.{ℕ, codes, List, [], ◌∷◌, ◌++◌, Option, None, Some, if◌then◌else◌}
 use Rattle.std.specs.List.{flat_map}
 use Rattle.std.specs.Fmt.{decimal, signed_decimal}
 use Rattle.proto_wire.specs.declared.fault.WireKind.{WireKind}
@@ -11,6 +11,7 @@ use Rattle.request_reply.specs.declared.request.ToFunction.{ToFunction}
 use Rattle.request_reply.specs.declared.request.ToFunction.TheVariants.{Invocation}
 use Rattle.request_reply.specs.declared.request.PersistedValue.{PersistedValue}
 use Rattle.request_reply.specs.declared.request.BatchInvocation.{BatchInvocation}
+use Rattle.request_reply.specs.declared.request.InvocationBatchRequest.{InvocationBatchRequest}
 use Rattle.request_reply.specs.declared.answer.FromFunction.{FromFunction}
 use Rattle.request_reply.specs.declared.answer.FromFunction.TheVariants.{Result, Incomplete}
 use Rattle.request_reply.specs.declared.answer.PersistedValueMutation.{PersistedValueMutation}
@@ -47,6 +48,10 @@ expiry_part (Some expiry) = signed_decimal expiry.mode ++ 32 ∷ signed_decimal 
 
 -- ---- requests
 
+-- `invocation TARGET`
+abbrev pub target_line : Option Address → List ℕ
+target_line target = codes "invocation " ++ (address_part target ++ 10 ∷ [])
+
 -- `state NAME VALUE`
 abbrev pub state_line : PersistedValue → List ℕ
 state_line state = codes "state " ++ (escaped state.state_name ++ 32 ∷ (value_part state.state_value ++ 10 ∷ []))
@@ -61,9 +66,12 @@ state_lines states = flat_map state_line states
 abbrev pub letter_lines : List BatchInvocation → List ℕ
 letter_lines letters = flat_map letter_line letters
 
--- `invocation TARGET`, then the states, then the letters
+-- the target, then the states, then the letters
+abbrev pub batch_lines : InvocationBatchRequest → List ℕ
+batch_lines batch = target_line batch.target ++ (state_lines batch.state ++ letter_lines batch.invocations)
+
 unfoldable pub request_lines : ToFunction → List ℕ
-request_lines (Invocation batch) = codes "invocation " ++ (address_part batch.target ++ 10 ∷ (state_lines batch.state ++ letter_lines batch.invocations))
+request_lines (Invocation batch) = batch_lines batch
 
 -- ---- answers
 
@@ -79,9 +87,13 @@ message_line message = codes "message " ++ (address_part message.target ++ 32 �
 abbrev pub cancel_line : DelayedInvocation → List ℕ
 cancel_line delayed = codes "cancel " ++ (token_part delayed.cancellation_token ++ 10 ∷ [])
 
+-- `TARGET TOKEN VALUE`
+abbrev pub delayed_call_part : DelayedInvocation → List ℕ
+delayed_call_part delayed = address_part delayed.target ++ 32 ∷ (token_part delayed.cancellation_token ++ 32 ∷ value_part delayed.argument)
+
 -- `delay MS TARGET TOKEN VALUE`
 abbrev pub delay_line : DelayedInvocation → List ℕ
-delay_line delayed = codes "delay " ++ (signed_decimal delayed.delay_in_ms ++ 32 ∷ (address_part delayed.target ++ 32 ∷ (token_part delayed.cancellation_token ++ 32 ∷ (value_part delayed.argument ++ 10 ∷ []))))
+delay_line delayed = codes "delay " ++ (signed_decimal delayed.delay_in_ms ++ 32 ∷ (delayed_call_part delayed ++ 10 ∷ []))
 
 abbrev pub delayed_line : DelayedInvocation → List ℕ
 delayed_line delayed = if delayed.is_cancellation_request then cancel_line delayed else delay_line delayed
@@ -110,7 +122,7 @@ abbrev pub missing_lines : List PersistedValueSpec → List ℕ
 missing_lines values = flat_map missing_line values
 
 -- `result`, then the mutations, the messages, the delayed messages and the egress
-unfoldable pub result_lines : InvocationResponse → List ℕ
+abbrev pub result_lines : InvocationResponse → List ℕ
 result_lines response =
     codes "result" ++ 10 ∷ (mutation_lines response.state_mutations ++ (message_lines response.outgoing_messages
     ++ (delayed_lines response.delayed_invocations ++ egress_lines response.outgoing_egresses)))

@@ -2,7 +2,7 @@
 ghost use Rattle.std.specs.Prelude.{◌≡◌, ◌++◌, OnOk, OnErr};
 ghost use Rattle.run_record.specs.Egress.{StartsAs, name_text};
 ghost use Rattle.run_record.specs.Machine.{egress_name};
-ghost use Rattle.message_text.specs.Lines.{mutation_line, message_line, cancel_line, delay_line, delayed_line, egress_message_line, missing_line, mutation_lines, message_lines, delayed_lines, egress_lines, missing_lines, result_lines, answer_lines};
+ghost use Rattle.message_text.specs.Lines.{mutation_line, message_line, cancel_line, delayed_call_part, delay_line, delayed_line, egress_message_line, missing_line, mutation_lines, message_lines, delayed_lines, egress_lines, missing_lines, result_lines, answer_lines};
 
 use crate::parts::{put_expiry, put_optional_address, put_signed, put_token, put_value};
 use proto_wire::{Bytes, Mem};
@@ -32,7 +32,6 @@ pub fn put_answer_lines(alloc: Global, into: &mut Bytes, answer: &FromFunction) 
     Ok(())
 }
 
-#[tactic(auto, unfolding(crate::specs::Lines::result_lines))]
 fn put_result(alloc: Global, into: &mut Bytes, response: &InvocationResponse) -> Mem<()>
     ensures ok { OnOk result (into.new ≡ into.old ++ result_lines response.now) }
     ensures err { OnErr result (StartsAs into.old into.new) }
@@ -129,12 +128,21 @@ fn put_delay(alloc: Global, into: &mut Bytes, message: &DelayedInvocation) -> Me
     into.append(b"delay ")?;
     put_signed(alloc, into, message.delay_in_ms)?;
     into.push(b' ')?;
+    put_delayed_call(into, message)?;
+    into.push(b'\n')?;
+    Ok(())
+}
+
+/// Adds what is sent later: its target, its token and its value.
+fn put_delayed_call(into: &mut Bytes, message: &DelayedInvocation) -> Mem<()>
+    ensures ok { OnOk result (into.new ≡ into.old ++ delayed_call_part message.now) }
+    ensures err { OnErr result (StartsAs into.old into.new) }
+{
     put_optional_address(into, &message.target)?;
     into.push(b' ')?;
     put_token(into, &message.cancellation_token)?;
     into.push(b' ')?;
     put_value(into, &message.argument)?;
-    into.push(b'\n')?;
     Ok(())
 }
 
