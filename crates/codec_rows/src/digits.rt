@@ -26,20 +26,26 @@ fn quoted(word: &str) -> Option<&str> {
 
 fn put_repeated(into: &mut Bytes, word: &str) -> Result<(), Failure> {
     match word.split_once('*') {
-        Some((digits, times)) => put_times(into, digits, number(times)?),
-        None => put_digits(into, digits_of(word)),
+        Some((digits, times)) => {
+            let unit = unit(into.allocator(), digits)?;
+            put_times(into, unit.as_slice(), number(times)?)
+        },
+        None => put_digits(into, word.as_bytes()),
     }
 }
 
-fn put_times(into: &mut Bytes, digits: &str, times: u64) -> Result<(), Failure> {
+/// The bytes that digits stand for.
+fn unit(alloc: Global, digits: &str) -> Result<Bytes, Failure> {
+    let mut unit = Bytes::new(alloc);
+    put_digits(&mut unit, digits.as_bytes())?;
+    Ok(unit)
+}
+
+fn put_times(into: &mut Bytes, unit: &[u8], times: u64) -> Result<(), Failure> {
     for _ in 0..times {
-        put_digits(into, digits_of(digits))?;
+        into.append(unit)?;
     }
     Ok(())
-}
-
-fn digits_of(word: &str) -> &[u8] {
-    word.as_bytes()
 }
 
 fn put_digits(into: &mut Bytes, digits: &[u8]) -> Result<(), Failure> {

@@ -41,11 +41,7 @@ pub(crate) fn stored(alloc: Global, kind: &str, words: &str) -> Result<String, F
     spelled(alloc, again(alloc, kind, bytes.as_slice())?)
 }
 
-fn again(
-    alloc: Global,
-    kind: &str,
-    bytes: &[u8],
-) -> Result<Result<Bytes, DecodeFault>, Failure> {
+fn again(alloc: Global, kind: &str, bytes: &[u8]) -> Result<Result<Bytes, DecodeFault>, Failure> {
     match kind {
         "address" => Ok(address_again(alloc, bytes)),
         "value" => Ok(value_again(alloc, bytes)),
@@ -121,7 +117,10 @@ pub(crate) fn order(alloc: Global, words: &str) -> Result<String, Failure> {
     let (first, second) = words.split_once('|').ok_or(Failure::Row)?;
     let first = bytes_of(alloc, first)?;
     let second = bytes_of(alloc, second)?;
-    owned(alloc, order_word(alloc, first.as_slice(), second.as_slice())?)
+    owned(
+        alloc,
+        order_word(alloc, first.as_slice(), second.as_slice())?,
+    )
 }
 
 fn order_word(alloc: Global, first: &[u8], second: &[u8]) -> Result<&'static str, Failure> {

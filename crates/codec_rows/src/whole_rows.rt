@@ -34,12 +34,7 @@ pub(crate) fn limited(alloc: Global, words: &str) -> Result<String, Failure> {
     limited_text(alloc, number(limit)?, Whole::of(kind)?, bytes.as_slice())
 }
 
-fn limited_text(
-    alloc: Global,
-    limit: u64,
-    whole: Whole,
-    bytes: &[u8],
-) -> Result<String, Failure> {
+fn limited_text(alloc: Global, limit: u64, whole: Whole, bytes: &[u8]) -> Result<String, Failure> {
     let mut feeder = Feeder::new(alloc, limit);
     let fed = fed_text(alloc, fed_up_to(&mut feeder, bytes)?)?;
     let held = whole_text(alloc, whole.fed(alloc, feeder))?;

@@ -27,7 +27,7 @@ pub(crate) fn records(alloc: Global, words: &str) -> Result<String, Failure> {
 /// One record of a part of a message: `FROM END BYTES`.
 pub(crate) fn record_within(alloc: Global, words: &str) -> Result<String, Failure> {
     let (from, rest) = words.split_once(' ').ok_or(Failure::Row)?;
-    let (end, rest) = rest.split_once(' ').ok_or(Failure::Row)?;
+    let (end, rest) = rest.split_once(' ').unwrap_or((rest, ""));
     let bytes = bytes_of(alloc, rest)?;
     next_text(
         alloc,
@@ -67,9 +67,9 @@ fn record_text(alloc: Global, record: &WireRecord) -> Result<String, Failure> {
         len,
         next,
     } = *record;
-    Ok(
-        format!(in alloc; "field {field} wire {wire} number {number} start {start} len {len} next {next}")?,
-    )
+    Ok(format!(in alloc;
+        "field {field} wire {wire} number {number} start {start} len {len} next {next}"
+    )?)
 }
 
 /// The shortest varint of a number, and what is read of it again.

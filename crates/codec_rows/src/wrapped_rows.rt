@@ -16,7 +16,10 @@ pub(crate) fn wrapped(alloc: Global, kind: &str, words: &str) -> Result<String, 
         "bool" => bool_text(alloc, &value_with(alloc, "io.statefun.types/bool", bytes)?),
         "int" => int_text(alloc, &value_with(alloc, "io.statefun.types/int", bytes)?),
         "long" => long_text(alloc, &value_with(alloc, "io.statefun.types/long", bytes)?),
-        "text" => text_text(alloc, &value_with(alloc, "io.statefun.types/string", bytes)?),
+        "text" => text_text(
+            alloc,
+            &value_with(alloc, "io.statefun.types/string", bytes)?,
+        ),
         _ => Err(Failure::Row),
     }
 }
