@@ -1,6 +1,7 @@
 //! The program `codec_rows`: reads rows from standard input, decodes and encodes what they spell, and prints each row with what came of it.
 #![tactic(auto)]
 
+mod container_rows;
 mod digits;
 mod failure;
 mod judge_rows;

@@ -1,4 +1,5 @@
 //! The kinds of rows.
+use crate::container_rows::{appended, first_bytes, listed, utf8};
 use crate::failure::Failure;
 use crate::judge_rows::judged;
 use crate::stored_rows::{copied, name, order, same, stored};
@@ -16,6 +17,10 @@ pub(crate) fn outcome(alloc: Global, row: &str) -> Result<String, Failure> {
         "varint" => varint(alloc, words),
         "varint-of" => varint_of(alloc, words),
         "bytes" => field_with_bytes(alloc, words),
+        "utf8" => utf8(alloc, words),
+        "append" => appended(alloc, words),
+        "first" => first_bytes(alloc, words),
+        "list" => listed(alloc, words),
         _ => value_outcome(alloc, kind, words),
     }
 }
