@@ -64,7 +64,7 @@ fn is_same_cut(
     at: usize,
     want: &str,
 ) -> Result<bool, Failure> {
-    let (front, back) = bytes.split_at(at);
+    let (front, back) = bytes.split_at(at.min(bytes.len()));
     let fed = whole_text(alloc, fed_in_two(alloc, whole, front, back))?;
     let pieces = two(alloc, front, back)?;
     let pieced = whole.pieced(alloc, bytes.len() as u64, pieces.as_slice());
