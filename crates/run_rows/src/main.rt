@@ -2,6 +2,9 @@
 //! came of each.
 #![tactic(auto)]
 
+mod comparing;
+mod detail;
+mod ends;
 mod escaping;
 mod failing;
 mod failure;

@@ -1,6 +1,7 @@
 //! The replay of a run's record.
+use crate::comparing::{Held, held_of};
 use crate::failure::Failure;
-use crate::records::splits_of;
+use crate::records::{records_of, splits_of};
 use crate::row::Row;
 use crate::words::words_of;
 use proto_wire::List;
@@ -16,9 +17,17 @@ pub(crate) enum Again {
     NoJob,
     /// The replay was given up.
     GivenUp,
-    /// Each entry was allowed.
-    State(Machine),
+    /// Each entry was allowed, and this is what the machine holds then.
+    State(Held),
     /// The first entry that is not allowed.
+    NotAllowed(u64),
+}
+
+/// How a machine came out of a replay.
+#[derive(Drop)]
+enum Ran {
+    GivenUp,
+    State(Machine),
     NotAllowed(u64),
 }
 
@@ -27,17 +36,12 @@ pub(crate) fn replay_row(
     alloc: Global,
     row: &Row,
     entries: &List<Entry>,
+    written: &str,
 ) -> Result<Again, Failure> {
     let words = words_of(alloc, row.words)?;
-    let records = if row.replayed.is_empty() {
-        row.records
-    } else {
-        row.replayed
-    };
-    let ingress = MemoryIngress::steady(alloc, splits_of(alloc, records)?)?;
     match routes_of(alloc, words.as_slice())? {
         None => Ok(Again::NoJob),
-        Some(routes) => Ok(replayed(alloc, entries, &routes, ingress)),
+        Some(routes) => replay_job(alloc, row.replayed(), entries, &routes, written),
     }
 }
 
@@ -50,16 +54,36 @@ fn routes_of(alloc: Global, words: &[String]) -> Result<Option<Routes>, Failure>
     }
 }
 
+/// Replays entries over the records of a field.
+fn replay_job(
+    alloc: Global,
+    field: &str,
+    entries: &List<Entry>,
+    routes: &Routes,
+    written: &str,
+) -> Result<Again, Failure> {
+    let ingress = MemoryIngress::steady(alloc, splits_of(alloc, field)?)?;
+    match replayed(alloc, entries, routes, ingress) {
+        Ran::GivenUp => Ok(Again::GivenUp),
+        Ran::NotAllowed(place) => Ok(Again::NotAllowed(place)),
+        Ran::State(machine) => {
+            let records = records_of(alloc, field)?;
+            let job = routes.module();
+            Ok(Again::State(held_of(alloc, &machine, job, records.as_slice(), written)?))
+        }
+    }
+}
+
 /// The one call of the replay.
 fn replayed(
     alloc: Global,
     entries: &List<Entry>,
     routes: &Routes,
     mut ingress: MemoryIngress,
-) -> Again {
+) -> Ran {
     match replay(alloc, entries, routes, &mut ingress) {
-        Ok(Replayed::State(machine)) => Again::State(machine),
-        Ok(Replayed::NotAllowed(place)) => Again::NotAllowed(place),
-        Err(_) => Again::GivenUp,
+        Ok(Replayed::State(machine)) => Ran::State(machine),
+        Ok(Replayed::NotAllowed(place)) => Ran::NotAllowed(place),
+        Err(_) => Ran::GivenUp,
     }
 }

@@ -14,8 +14,8 @@ pub(crate) struct Row<'a> {
     pub(crate) script: &'a str,
     /// `full` where requests and batches are shown.
     pub(crate) detail: &'a str,
-    /// The records of the replay; empty for those of the run.
-    pub(crate) replayed: &'a str,
+    /// Other records for the replay.
+    pub(crate) others: &'a str,
 }
 
 /// The row of a line.
@@ -27,6 +27,17 @@ pub(crate) fn row_of(line: &str) -> Row {
         failing: fields.next().unwrap_or(""),
         script: fields.next().unwrap_or(""),
         detail: fields.next().unwrap_or(""),
-        replayed: fields.next().unwrap_or(""),
+        others: fields.next().unwrap_or(""),
+    }
+}
+
+impl<'a> Row<'a> {
+    /// The records of the replay.
+    pub(crate) fn replayed(&self) -> &'a str {
+        if self.others.is_empty() {
+            self.records
+        } else {
+            self.others
+        }
     }
 }
