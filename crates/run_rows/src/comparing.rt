@@ -1,9 +1,10 @@
 //! What a replayed machine holds, beside what was written.
+use crate::failure::Failure;
 use proto_wire::{Bytes, Mem, Text, TryClone};
-use run_record::{Machine, Module, put_address, put_escaped, put_hex, put_name};
+use run_record::{Machine, Module, put_address, put_egress_line};
 use sf_outside::IngressRecord;
 use std::alloc::Global;
-use typed_values::{Address, Sender, TypeName, TypedValue};
+use typed_values::{Address, EgressRecord, Sender, TypeName, TypedValue};
 
 /// What a machine holds.
 #[derive(Drop)]
@@ -23,7 +24,7 @@ pub(crate) fn held_of(
     job: &Module,
     records: &[IngressRecord],
     written: &str,
-) -> Mem<Held> {
+) -> Result<Held, Failure> {
     let mut held = Held {
         taken: machine.taken(0),
         waiting: 0,
@@ -53,27 +54,18 @@ fn has_key(records: &[IngressRecord], key: &Text) -> bool {
 }
 
 /// The address to which a job's records of a key go.
-fn address_of(alloc: Global, job: &Module, key: &Text) -> Mem<Address> {
-    Ok(Address {
-        kind: target_of(alloc, job)?,
-        id: key.try_clone(alloc)?,
-    })
-}
-
-fn target_of(alloc: Global, job: &Module) -> Mem<TypeName> {
-    for ingress in job.ingresses.as_slice() {
-        for target in ingress.targets.as_slice() {
-            return target.try_clone(alloc);
-        }
+fn address_of(alloc: Global, job: &Module, key: &Text) -> Result<Address, Failure> {
+    match first_target(job) {
+        Some(kind) => Ok(Address {
+            kind: kind.try_clone(alloc)?,
+            id: key.try_clone(alloc)?,
+        }),
+        None => Err(Failure::Row),
     }
-    no_name(alloc)
 }
 
-fn no_name(alloc: Global) -> Mem<TypeName> {
-    Ok(TypeName {
-        namespace: Text::new(alloc),
-        name: Text::new(alloc),
-    })
+fn first_target(job: &Module) -> Option<&TypeName> {
+    job.ingresses.as_slice().first()?.targets.as_slice().first()
 }
 
 /// Adds what is held of one address. How many lines were written of it.
@@ -89,7 +81,7 @@ fn add_address(
     let told = told_of(alloc, address, written)?;
     let mut kept = Bytes::new(alloc);
     for name in job.egresses.as_slice() {
-        put_kept(&mut kept, machine, address, name)?;
+        put_kept(alloc, &mut kept, machine, address, name)?;
     }
     held.same = held.same && kept.as_slice() == told.as_slice();
     Ok(lines_in(told.as_slice()))
@@ -121,29 +113,35 @@ fn told_of(alloc: Global, address: &Address, written: &str) -> Mem<Bytes> {
 }
 
 /// Adds a line for each record that an address gave to an egress.
-fn put_kept(into: &mut Bytes, machine: &Machine, address: &Address, name: &TypeName) -> Mem<()> {
+fn put_kept(
+    alloc: Global,
+    into: &mut Bytes,
+    machine: &Machine,
+    address: &Address,
+    name: &TypeName,
+) -> Mem<()> {
     for place in 0..usize::MAX {
         match machine.egress(address, name, place) {
-            Some(value) => put_line(into, address, name, value)?,
+            Some(value) => put_line(alloc, into, address, name, value)?,
             None => return Ok(()),
         }
     }
     Ok(())
 }
 
-fn put_line(into: &mut Bytes, address: &Address, name: &TypeName, value: &TypedValue) -> Mem<()> {
-    put_address(into, address)?;
-    into.push(b' ')?;
-    put_name(into, name)?;
-    into.push(b' ')?;
-    put_escaped(into, value.typename.as_bytes())?;
-    into.push(b' ')?;
-    if value.has_value {
-        put_hex(into, value.value.as_slice())?;
-    } else {
-        into.append(b"none")?;
-    }
-    into.push(b'\n')
+fn put_line(
+    alloc: Global,
+    into: &mut Bytes,
+    address: &Address,
+    name: &TypeName,
+    value: &TypedValue,
+) -> Mem<()> {
+    let record = EgressRecord {
+        sender: address.try_clone(alloc)?,
+        egress: name.try_clone(alloc)?,
+        argument: value.try_clone(alloc)?,
+    };
+    put_egress_line(into, &record)
 }
 
 /// How many line feeds there are.
