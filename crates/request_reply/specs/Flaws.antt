@@ -1,9 +1,8 @@
 -- The first flaw of an answer, for endpoints, egresses and the cells of the address that answers. An answer is valid where it has none.
-use Rattle.std.specs.Prelude.{ℕ, ◌+◌, ℤ, pos, Bool, true, false, ◌&&◌, ◌||◌, nat_lt, int_lt, int_le, List, [], ◌∷◌, ◌++◌, length, Option, Some, None, Result, Ok, Err, if◌then◌else◌}
+use Rattle.std.specs.Prelude.{◌≡◌, ℕ, ◌+◌, ℤ, pos, Bool, true, false, ◌&&◌, ◌||◌, nat_lt, int_lt, int_le, List, [], ◌∷◌, ◌++◌, length, Option, Some, None, Result, Ok, Err, if◌then◌else◌}
 use Rattle.std.specs.List.{list_any}
 use Rattle.std.specs.Str.{bytes_eq}
 use Rattle.proto_wire.specs.declared.fault.WireFault.{WireFault}
-use Rattle.proto_wire.specs.declared.fault.WireKind.TheVariants.{OverLimit}
 use Rattle.typed_values.specs.declared.name.TypeName.{TypeName}
 use Rattle.typed_values.specs.declared.address.Address.{Address}
 use Rattle.typed_values.specs.declared.value.TypedValue.{TypedValue}
@@ -18,9 +17,11 @@ use Rattle.request_reply.specs.declared.answer.PersistedValueSpec.{PersistedValu
 use Rattle.request_reply.specs.declared.answer.ExpirationSpec.{ExpirationSpec}
 use Rattle.request_reply.specs.declared.flaw.Flaw.{Flaw}
 use Rattle.request_reply.specs.declared.flaw.FlawKind.{FlawKind}
-use Rattle.request_reply.specs.declared.flaw.FlawKind.TheVariants.{Wire, BadMutation, UnknownName, TypeDiffers, TooLarge, NoEndpoint, NegativeDelay, EmptyToken, UnknownEgress, BadExpiry, TooMany, NoNewName}
+use Rattle.request_reply.specs.declared.flaw.FlawKind.TheVariants.{BadMutation, UnknownName, TypeDiffers, TooLarge, NoEndpoint, NegativeDelay, EmptyToken, UnknownEgress, BadExpiry, TooMany, NoNewName, NotBuilt}
+use Rattle.request_reply.specs.declared.judging.Judged.{Judged}
+use Rattle.request_reply.specs.declared.judging.Judged.TheVariants as judged
 use Rattle.request_reply.specs.Spelling.{from_value}
-use Rattle.request_reply.specs.Valid.{is_known}
+use Rattle.request_reply.specs.Valid.{is_known, wire_flaw, too_long}
 
 -- an endpoint serves the types of a namespace: all, or the one with a name
 pub record Pattern : Type 0 where
@@ -154,14 +155,21 @@ result_flaw setting response =
 unfoldable pub incomplete_flaw : Setting → List PersistedValueSpec → Option Flaw
 incomplete_flaw setting missing = first_of_two (first_missing setting.cells 0 missing) (if list_any (is_new setting.cells) missing then None else Some (flaw_at NoNewName 0))
 
-abbrev pub wire_flaw : WireFault → Flaw
-wire_flaw fault = record { kind = Wire; index = 0; wire = Some fault }
-
 unfoldable pub read_flaw : Setting → Result FromFunction WireFault → Option Flaw
 read_flaw setting (Err fault) = Some (wire_flaw fault)
 read_flaw setting (Ok (answers.Result response)) = result_flaw setting response
 read_flaw setting (Ok (answers.Incomplete context)) = incomplete_flaw setting context.missing_values
 
--- an answer of more than 4,194,304 bytes is not read
 unfoldable pub first_flaw : Setting → List ℕ → Option Flaw
-first_flaw setting answer = if nat_lt 4194304 (length answer) then Some (wire_flaw (record { kind = OverLimit; at = 4194304 })) else read_flaw setting (from_value answer)
+first_flaw setting answer = if nat_lt 4194304 (length answer) then Some (wire_flaw too_long) else read_flaw setting (from_value answer)
+
+-- ---- the judging of this stage beside it
+
+-- What is judged so has no flaw, or this one first, whatever endpoints and cells there are. Of an answer that is not served yet nothing is said.
+abbrev pub Agrees : Setting → List ℕ → Judged → Type 0
+Agrees setting answer (judged.Accept response) = first_flaw setting answer ≡ None
+Agrees setting answer (judged.Flaw flaw) = AgreesOn flaw.kind setting answer flaw
+  where
+    AgreesOn : FlawKind → Setting → List ℕ → Flaw → Type 0
+    AgreesOn NotBuilt setting answer flaw = Unit {0}
+    AgreesOn kind setting answer flaw = first_flaw setting answer ≡ Some flaw

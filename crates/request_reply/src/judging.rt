@@ -1,11 +1,11 @@
 //! Which answers are valid.
 ghost use Rattle.std.specs.Prelude.{◌≡◌, ◌+◌, ◌<◌, ◌≤◌, ◌^◌, length, IfOk, IfSome, Option, None, Some, Ok, ℕ};
-ghost use Rattle.request_reply.specs.Valid.{is_known, is_name, first_unknown, has_egresses_alone, flaw_not_built, judged_egresses, judged_answer, verdict};
+ghost use Rattle.request_reply.specs.Spelling.{from_value};
+ghost use Rattle.request_reply.specs.Flaws.{Setting, Agrees};
+ghost use Rattle.request_reply.specs.Valid.{is_known, is_name, first_unknown, has_egresses_alone, flaw_not_built, wire_flaw, judged_egresses, judged_answer, verdict};
 
-use crate::{
-    EgressMessage, Flaw, FlawKind, FromFunction, InvocationResponse, decode_from, encode_from,
-};
-use proto_wire::{DecodeFault, List, Mem, OutOfMemory};
+use crate::{EgressMessage, Flaw, FlawKind, FromFunction, InvocationResponse, decode_from};
+use proto_wire::{DecodeFault, List, Mem, OutOfMemory, WireFault, WireKind};
 use std::alloc::Global;
 use typed_values::TypeName;
 
@@ -85,42 +85,62 @@ fn judged_response(egresses: &List<TypeName>, response: InvocationResponse) -> J
     }
 }
 
-#[tactic(auto, unfolding(crate::specs::Valid::judged_answer))]
-fn judged_read(
-    alloc: Global,
-    answer: &[u8],
-    egresses: &List<TypeName>,
-    read: FromFunction,
-) -> Mem<Judged>
-    requires { length answer.now ≤ 4194304 }
-    ensures { IfOk result (λ judged. judged ≡ judged_answer egresses.now answer.now (Ok read)) }
+fn flaw_of_wire(fault: WireFault) -> Judged
+    ensures { result ≡ Judged.Flaw (wire_flaw fault) }
 {
-    let spelling = encode_from(alloc, &read)?;
-    let canonical = spelling.as_slice() == answer;
+    Judged::Flaw(Flaw {
+        kind: FlawKind::Wire,
+        index: 0,
+        wire: Some(fault),
+    })
+}
+
+#[tactic(auto, unfolding(crate::specs::Valid::judged_answer))]
+fn judged_read(answer: &[u8], egresses: &List<TypeName>, read: FromFunction) -> Judged
+    requires short { length answer.now ≤ 4194304 }
+    requires spelled { from_value answer.now ≡ Ok read }
+    ensures { result ≡ judged_answer egresses.now (Ok read) }
+{
+    let _length = answer.len();
     match read {
-        FromFunction::Incomplete(_context) => Ok(not_built()),
+        FromFunction::Incomplete(_context) => not_built(),
         FromFunction::Result(response) => {
-            if canonical && has_egresses_alone(&response) {
-                return Ok(judged_response(egresses, response));
+            if has_egresses_alone(&response) {
+                judged_response(egresses, response)
+            } else {
+                not_built()
             }
-            Ok(not_built())
         }
     }
 }
 
-/// Judges an answer: accepted exactly where it is valid, else its first flaw. The flaw is NotBuilt where the answer is longer than 4,194,304 bytes or is not the
-/// canonical spelling of a result with egress messages alone, and UnknownEgress, with the place of the first such message, where one names an egress that is not
-/// in the list.
+/// What an answer is, by the bytes.
 #[tactic(auto, unfolding(crate::specs::Valid::verdict, crate::specs::Valid::judged_answer))]
-pub fn judge(alloc: Global, answer: &[u8], egresses: &List<TypeName>) -> Mem<Judged>
+fn judgement(alloc: Global, answer: &[u8], egresses: &List<TypeName>) -> Mem<Judged>
     ensures { IfOk result (λ judged. judged ≡ verdict egresses.now answer.now) }
 {
     if answer.len() > ANSWER_LIMIT {
-        return Ok(not_built());
+        return Ok(flaw_of_wire(WireFault {
+            kind: WireKind::OverLimit,
+            at: ANSWER_LIMIT,
+        }));
     }
     match decode_from(alloc, answer) {
-        Ok(read) => judged_read(alloc, answer, egresses, read),
-        Err(DecodeFault::Wire(_)) => Ok(not_built()),
+        Ok(read) => Ok(judged_read(answer, egresses, read)),
+        Err(DecodeFault::Wire(fault)) => Ok(flaw_of_wire(fault)),
         Err(DecodeFault::OutOfMemory) => Err(OutOfMemory),
     }
+}
+
+/// Judges an answer: accepted exactly where it is valid, else its first flaw.
+///
+/// The flaw is Wire, with the fault, where the answer is longer than 4,194,304 bytes (OverLimit there) or its bytes spell
+/// none; NotBuilt where it is an incomplete one, or a result that changes state or sends messages; and UnknownEgress, with
+/// the place of the first such message, where one names an egress that is not in the list.
+pub fn judge(alloc: Global, answer: &[u8], egresses: &List<TypeName>) -> Mem<Judged>
+    ensures verdict { IfOk result (λ judged. judged ≡ verdict egresses.now answer.now) }
+    // Whatever endpoints and cells there are, an accepted answer has no flaw, and a flaw but NotBuilt is the first.
+    ensures agrees { (setting : Setting) → setting.egresses ≡ egresses.now → IfOk result (Agrees setting answer.now) }
+{
+    judgement(alloc, answer, egresses)
 }

@@ -1,5 +1,5 @@
 //! The sequential machine: one state, and one step after the other.
-ghost use Rattle.std.specs.Prelude.{◌≡◌, ◌+◌, ◌<◌, ◌^◌, IfOk, OnOk, OnErr, ℕ, get_or, vec_len};
+ghost use Rattle.std.specs.Prelude.{◌≡◌, IfOk, get_or, option_copied, slice_get};
 ghost use Rattle.run_record.specs.Machine.{first_state};
 ghost use Rattle.run_record.specs.StateOf.{state_of};
 
@@ -50,5 +50,21 @@ impl Machine {
         ensures { result ≡ (state_of self.now).seen address.now }
     {
         self.seen.at(address)
+    }
+
+    /// The argument of a letter that waits from a sender for a target, by its place from 0, the oldest first.
+    #[tactic(auto, unfolding(crate::specs::StateOf::state_of))]
+    pub fn letter(&self, sender: &Sender, target: &Address, place: usize) -> Option<&TypedValue>
+        ensures { option_copied result ≡ slice_get ((state_of self.now).mail sender.now target.now) place }
+    {
+        self.mail.get(target, sender, place)
+    }
+
+    /// The argument of a record that an address gave to an egress, by its place from 0, the oldest first.
+    #[tactic(auto, unfolding(crate::specs::StateOf::state_of))]
+    pub fn egress(&self, address: &Address, name: &TypeName, place: usize) -> Option<&TypedValue>
+        ensures { option_copied result ≡ slice_get ((state_of self.now).egress address.now name.now) place }
+    {
+        self.egress.get(address, name, place)
     }
 }

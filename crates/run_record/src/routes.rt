@@ -32,11 +32,11 @@ impl Model for Routes {
 impl Routes {
     /// The routes of a module, which is moved in. Its patterns, ingress ids and egress ids stand once each, its limits are
     /// at least 1, each target has an endpoint, and there are 1 to 32 splits in all.
-    pub fn new(_alloc: Global, module: Module) -> Mem<Routes>
-        requires { IsTrue (is_routable «module») }
-        ensures { IfOk result (λ routes. routes ≡ «module») }
+    pub fn new(_alloc: Global, job: Module) -> Mem<Routes>
+        requires { IsTrue (is_routable job) }
+        ensures { IfOk result (λ routes. routes ≡ job) }
     {
-        Ok(Routes { module })
+        Ok(Routes { module: job })
     }
 
     /// The module.

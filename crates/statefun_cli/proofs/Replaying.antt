@@ -25,7 +25,7 @@ use Rattle.request_reply.specs.declared.answer.OutgoingInvocation.{OutgoingInvoc
 use Rattle.request_reply.specs.declared.judging.Judged.{Judged}
 use Rattle.request_reply.specs.declared.judging.Judged.TheVariants.{Accept, Flaw}
 use Rattle.request_reply.specs.Spelling.{to_spelling, from_spelling, from_value}
-use Rattle.request_reply.specs.Valid.{verdict, judged_answer, judged_egresses, has_egresses_alone, first_unknown, is_empty, flaw_not_built}
+use Rattle.request_reply.specs.Valid.{verdict, judged_answer, judged_egresses, has_egresses_alone, first_unknown, is_empty, flaw_not_built, wire_flaw, too_long}
 use Rattle.run_record.specs.declared.module.Module.{Module}
 use Rattle.run_record.specs.declared.entry.Entry.{Entry}
 use Rattle.run_record.specs.declared.entry.Step.TheVariants.{Take, Batch}
@@ -54,23 +54,22 @@ accept_is : (b : Bool) (r response : InvocationResponse) (o : Option ℕ) → co
 accept_is true r response o e = (refl, judged_is r response o e)
 accept_is false r response o e = absurd cc
 
-accept_silent : (egresses : List TypeName) (bytes : List ℕ) (read : Result FromFunction WireFault) (response : InvocationResponse) → judged_answer egresses bytes read ≡ Accept response → response.outgoing_messages ≡ []
+accept_silent : (egresses : List TypeName) (read : Result FromFunction WireFault) (response : InvocationResponse) → judged_answer egresses read ≡ Accept response → response.outgoing_messages ≡ []
 unfolding judged_answer
-accept_silent egresses bytes (Err e) response h = absurd cc
-accept_silent egresses bytes (Ok (answers.Incomplete context)) response h = absurd cc
-accept_silent egresses bytes (Ok (answers.Result r)) response h =
-    let a = accept_is (bytes_eq (from_spelling (answers.Result r)) bytes && has_egresses_alone r) r response (first_unknown egresses 0 r.outgoing_egresses) h in
-    let alone : has_egresses_alone r ≡ true = second_so (bytes_eq (from_spelling (answers.Result r)) bytes) _ a.0 in
-    let two = first_so (is_empty r.state_mutations && is_empty r.outgoing_messages) _ alone in
+accept_silent egresses (Err e) response h = absurd cc
+accept_silent egresses (Ok (answers.Incomplete context)) response h = absurd cc
+accept_silent egresses (Ok (answers.Result r)) response h =
+    let a = accept_is (has_egresses_alone r) r response (first_unknown egresses 0 r.outgoing_egresses) h in
+    let two = first_so (is_empty r.state_mutations && is_empty r.outgoing_messages) _ a.0 in
     ap (λ (x : InvocationResponse). x.outgoing_messages) (sym a.1) ∙ empty_is r.outgoing_messages (second_so (is_empty r.state_mutations) _ two)
 
-long_or : (b : Bool) (j : Judged) (response : InvocationResponse) → cond b flaw_not_built j ≡ Accept response → j ≡ Accept response
+long_or : (b : Bool) (j : Judged) (response : InvocationResponse) → cond b (Flaw (wire_flaw too_long)) j ≡ Accept response → j ≡ Accept response
 long_or true j response e = absurd cc
 long_or false j response e = e
 
 pub verdict_silent : (egresses : List TypeName) (bytes : List ℕ) (response : InvocationResponse) → verdict egresses bytes ≡ Accept response → response.outgoing_messages ≡ []
 unfolding verdict
-verdict_silent egresses bytes response h = accept_silent egresses bytes (from_value bytes) response (long_or _ (judged_answer egresses bytes (from_value bytes)) response h)
+verdict_silent egresses bytes response h = accept_silent egresses (from_value bytes) response (long_or _ (judged_answer egresses (from_value bytes)) response h)
 
 -- ---- one step
 

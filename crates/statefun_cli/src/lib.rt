@@ -10,8 +10,6 @@ mod polling;
 mod progress;
 mod run;
 mod turn;
-#[cfg(test)]
-mod word_tests;
 mod words;
 
 pub use end::{PlainEnd, PlainRun};
