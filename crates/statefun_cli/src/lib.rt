@@ -19,7 +19,6 @@ mod words;
 pub use decode::{DecodeEnd, statefun_decode};
 pub use decode_words::{DecodeAsk, MessageKind, UnknownKind, read_decode_words};
 pub use end::{PlainEnd, PlainRun};
-pub use line::put_decimal;
 pub use output::write_whole;
 pub use run::statefun_run;
 pub use words::{Plan, WordsFault, read_words};
