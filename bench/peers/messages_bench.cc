@@ -5,42 +5,42 @@
 #include <cstdlib>
 #include <string>
 
-#include "messages.pb.h"
+#include "request_reply.pb.h"
 
 namespace {
 
 const char kPayload[] =
     "A letter that is long enough to be like the letters of a shop: an order, its lines and its price.";
 
-void FillAddress(peer::Address* address, const char* name, uint32_t number) {
+void FillAddress(request_reply::Address* address, const char* name, uint32_t number) {
   address->set_namespace_("com.example");
   address->set_type(name);
   address->set_id("key-" + std::to_string(number));
 }
 
-void FillValue(peer::TypedValue* value) {
+void FillValue(request_reply::TypedValue* value) {
   value->set_typename_("io.statefun.types/string");
   value->set_has_value(true);
   value->set_value(kPayload);
 }
 
-peer::ToFunction Request(uint32_t count) {
-  peer::ToFunction request;
-  peer::InvocationBatchRequest* batch = request.mutable_invocation();
+request_reply::ToFunction Request(uint32_t count) {
+  request_reply::ToFunction request;
+  request_reply::InvocationBatchRequest* batch = request.mutable_invocation();
   FillAddress(batch->mutable_target(), "greeter", 0);
   for (uint32_t number = 0; number < count; ++number) {
-    peer::BatchInvocation* invocation = batch->add_invocations();
+    request_reply::BatchInvocation* invocation = batch->add_invocations();
     FillAddress(invocation->mutable_caller(), "sender", number);
     FillValue(invocation->mutable_argument());
   }
   return request;
 }
 
-peer::FromFunction Answer(uint32_t count) {
-  peer::FromFunction answer;
-  peer::InvocationResponse* result = answer.mutable_invocation_result();
+request_reply::FromFunction Answer(uint32_t count) {
+  request_reply::FromFunction answer;
+  request_reply::InvocationResponse* result = answer.mutable_invocation_result();
   for (uint32_t number = 0; number < count; ++number) {
-    peer::OutgoingInvocation* message = result->add_outgoing_messages();
+    request_reply::OutgoingInvocation* message = result->add_outgoing_messages();
     FillAddress(message->mutable_target(), "greeter", number);
     FillValue(message->mutable_argument());
   }

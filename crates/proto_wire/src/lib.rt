@@ -28,6 +28,3 @@ pub use put::{
 pub use record::{Record, WireRecord, next_record};
 pub use text::Text;
 pub use varint::{put_varint, varint_in, varint_size};
-
-#[cfg(test)]
-mod tests;

@@ -21,6 +21,3 @@ pub use flaw::{Flaw, FlawKind, Reason};
 pub use judging::{ANSWER_LIMIT, Judged, judge};
 pub use request::{BatchInvocation, InvocationBatchRequest, PersistedValue, ToFunction};
 pub use whole::{decode_from, decode_to, encode_from, encode_to, size_from, size_letter, size_to};
-
-#[cfg(test)]
-mod tests;

@@ -9,3 +9,4 @@ pub mod Log
 pub mod Unread
 pub mod System
 pub mod Opened
+pub mod Left

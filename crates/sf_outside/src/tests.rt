@@ -225,6 +225,84 @@ fn writer_sink_tells_faults(rt: HostRuntime) -> Result<(), Fail> {
     Ok(())
 }
 
+// Reads into room for two bytes, and looks at the whole room.
+fn check_source<S: Source>(
+    rt: &impl Abort,
+    source: &mut S,
+    want: Result<usize, Fault>,
+    room: [u8; 2],
+) {
+    let mut into = [9, 9];
+    assert_eq!(rt; source.read(&mut into), want);
+    assert_eq!(rt; into, room);
+}
+
+#[test]
+fn memory_source_gives_its_bytes(rt: HostRuntime) -> Result<(), Fail> {
+    let alloc = rt.alloc();
+    let content = Bytes::copy_of(alloc, &[1, 2, 3])?;
+    let mut source = MemorySource::new(alloc, content, numbers(alloc, &[0, 2])?)?;
+    let rows = [
+        (Err(Fault::Failed), [9, 9]),
+        (Ok(2), [1, 2]),
+        (Err(Fault::Failed), [9, 9]),
+        (Ok(1), [3, 9]),
+        (Ok(0), [9, 9]),
+    ];
+    for (want, room) in rows {
+        check_source(&rt, &mut source, want, room);
+    }
+    let mut steady = MemorySource::steady(alloc, Bytes::new(alloc))?;
+    check_source(&rt, &mut steady, Ok(0), [9, 9]);
+    Ok(())
+}
+
+/// Answers each read by the next of its answers, and gives the next byte at an `Ok`, or none past the last.
+#[derive(Drop)]
+struct Sluggish {
+    answers: Vec<Option<ErrorKind>>,
+    bytes: Vec<u8>,
+}
+
+impl Read for Sluggish {
+    fn read(&mut self, buf: &mut [u8]) -> io::Result<usize> {
+        if let Some(Some(kind)) = self.answers.pop() {
+            return Err(io::Error::from(kind));
+        }
+        match (buf.first_mut(), self.bytes.pop()) {
+            (Some(place), Some(byte)) => {
+                *place = byte;
+                Ok(1)
+            }
+            _ => Ok(0),
+        }
+    }
+}
+
+#[test]
+fn reader_source_tells_faults(rt: HostRuntime) -> Result<(), Fail> {
+    let alloc = rt.alloc();
+    let answers = vec![in alloc;
+        Some(ErrorKind::BrokenPipe),
+        None,
+        Some(ErrorKind::OutOfMemory),
+        Some(ErrorKind::Interrupted),
+    ]?;
+    let bytes = vec![in alloc; 5]?;
+    let mut source = ReaderSource::new(Sluggish { answers, bytes });
+    let rows = [
+        (Err(Fault::OutOfMemory), [9, 9]),
+        (Ok(1), [5, 9]),
+        (Err(Fault::Failed), [9, 9]),
+        (Ok(0), [9, 9]),
+    ];
+    for (want, room) in rows {
+        check_source(&rt, &mut source, want, room);
+    }
+    assert_eq!(rt; source.into_reader().bytes.len(), 0);
+    Ok(())
+}
+
 fn log(alloc: Global, keys: &[&str]) -> Result<Bytes, OutOfMemory> {
     let mut log = Bytes::new(alloc);
     for key in keys {

@@ -1,5 +1,5 @@
 //! Bytes of a file that were read ahead.
-ghost use Rattle.std.specs.Prelude.{◌≡◌, [], ◌+◌, ◌≤◌, drop, length, vec_len, vec_capacity, IfOk, OnErr};
+ghost use Rattle.std.specs.Prelude.{◌≡◌, [], ◌+◌, ◌≤◌, min, take, drop, length, vec_len, vec_capacity, IfOk, OnErr};
 ghost use Rattle.std.specs.Io.{ReadsAtMost};
 ghost use Rattle.std.specs.Io.KnownBytes.{Keeps, ReadConsumes};
 ghost use Rattle.sf_outside.specs.Unread.{AreAdded};
@@ -12,7 +12,7 @@ use std::io::{ErrorKind, Read};
 use std::marker::Model;
 
 /// How many bytes are asked for at once.
-const CHUNK: usize = 8192;
+pub(crate) const CHUNK: usize = 8192;
 
 /// How often a read is made again that a signal cut short.
 const RETRIES: usize = 64;
@@ -44,6 +44,13 @@ impl Unread {
             bytes: Vec::new(alloc),
             at: 0,
         }
+    }
+
+    /// The bytes of a vector, which is moved in.
+    pub(crate) fn of(bytes: Vec<u8>) -> Unread
+        ensures { result ≡ bytes.items }
+    {
+        Unread { bytes, at: 0 }
     }
 
     /// The bytes.
@@ -95,7 +102,7 @@ fn read_behind<F: Read>(bytes: &mut Vec<u8>, file: &mut F) -> Result<usize, Faul
 }
 
 // One read, made again where a signal cut it short.
-fn read_some<F: Read>(file: &mut F, chunk: &mut [u8]) -> io::Result<usize>
+pub(crate) fn read_some<F: Read>(file: &mut F, chunk: &mut [u8]) -> io::Result<usize>
     ensures bound { ReadsAtMost result chunk.new }
     ensures bytes { ReadConsumes (F.remaining file.old) (F.remaining file.new) result chunk.new }
 {
@@ -106,4 +113,16 @@ fn read_some<F: Read>(file: &mut F, chunk: &mut [u8]) -> io::Result<usize>
         }
     }
     file.read(chunk)
+}
+
+/// Copies as many of the bytes as fit to the front of `into`, and answers how many.
+pub(crate) fn put_front(into: &mut [u8], bytes: &[u8]) -> usize
+    ensures count { result ≡ min (length bytes.now) (length into.old) }
+    ensures front { take result into.new ≡ take result bytes.now }
+    ensures behind { drop result into.new ≡ drop result into.old }
+    ensures room { length into.new ≡ length into.old }
+{
+    let count = bytes.len().min(into.len());
+    into[..count].copy_from_slice(&bytes[..count]);
+    count
 }

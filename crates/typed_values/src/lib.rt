@@ -27,6 +27,3 @@ pub use value::TypedValue;
 pub use wrapped::{
     bool_of, bool_value, int_of, int_value, long_of, long_value, text_of, text_value,
 };
-
-#[cfg(test)]
-mod tests;

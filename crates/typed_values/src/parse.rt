@@ -58,30 +58,3 @@ fn name_of(alloc: Global, namespace: &str, name: &str) -> Result<TypeName, NameF
         name: Text::copy_of(alloc, name)?,
     })
 }
-
-#[cfg(test)]
-mod tests {
-    use super::*;
-    use std::test::Fail;
-
-    #[test]
-    fn names(rt: HostRuntime) -> Result<(), Fail> {
-        let alloc = rt.alloc();
-        for (text, namespace, name) in [
-            ("com.example/greeter", "com.example", "greeter"),
-            ("a/b/c", "a/b", "c"),
-            ("//c", "/", "c"),
-        ] {
-            let found = parse_type_name(alloc, &Text::copy_of(alloc, text)?)?;
-            assert_eq!(rt; found.namespace.as_str(), namespace);
-            assert_eq!(rt; found.name.as_str(), name);
-        }
-        for text in ["", "greeter", "/greeter", "com.example/", "/"] {
-            match parse_type_name(alloc, &Text::copy_of(alloc, text)?) {
-                Err(fault) => assert_eq!(rt; fault, NameFault::BadName, "{text}"),
-                Ok(_) => assert!(rt; false, "{text}"),
-            }
-        }
-        Ok(())
-    }
-}

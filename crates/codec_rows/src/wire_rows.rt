@@ -1,0 +1,120 @@
+//! Rows on the records of the wire format.
+use crate::digits::{bytes_of, hexadecimal, number};
+use crate::failure::Failure;
+use crate::told::{fault_text, owned};
+use proto_wire::{
+    Bytes, WireFault, WireRecord, next_record, put_bytes, put_varint, varint_in, varint_size,
+};
+use std::alloc::Global;
+
+/// The records of a message from its begin to its end or first fault, each in a line.
+pub(crate) fn records(alloc: Global, words: &str) -> Result<String, Failure> {
+    let bytes = bytes_of(alloc, words)?;
+    let mut text = String::new(alloc);
+    let mut at = 0usize;
+    for _ in 0..=bytes.len() {
+        let next = next_in(bytes.as_slice(), at, bytes.len());
+        text.push_str(next_text(alloc, next)?.as_str())?;
+        match next {
+            Ok(Some(record)) => at = record.next,
+            _ => return Ok(text),
+        }
+        text.push_str("\n  ")?;
+    }
+    Err(Failure::Row)
+}
+
+/// One record of a part of a message: `FROM END BYTES`.
+pub(crate) fn record_within(alloc: Global, words: &str) -> Result<String, Failure> {
+    let (from, rest) = words.split_once(' ').ok_or(Failure::Row)?;
+    let (end, rest) = rest.split_once(' ').unwrap_or((rest, ""));
+    let bytes = bytes_of(alloc, rest)?;
+    next_text(
+        alloc,
+        next_in(bytes.as_slice(), place_of(from)?, place_of(end)?),
+    )
+}
+
+fn place_of(word: &str) -> Result<usize, Failure> {
+    Ok(number(word)? as usize)
+}
+
+/// The record at a place; no record where the places are none of the bytes.
+fn next_in(bytes: &[u8], at: usize, end: usize) -> Result<Option<WireRecord>, WireFault> {
+    if at > end || end > bytes.len() {
+        return Ok(None);
+    }
+    next_record(bytes, at, end)
+}
+
+fn next_text(
+    alloc: Global,
+    next: Result<Option<WireRecord>, WireFault>,
+) -> Result<String, Failure> {
+    match next {
+        Ok(Some(record)) => record_text(alloc, &record),
+        Ok(None) => owned(alloc, "end"),
+        Err(fault) => fault_text(alloc, fault),
+    }
+}
+
+fn record_text(alloc: Global, record: &WireRecord) -> Result<String, Failure> {
+    let WireRecord {
+        field,
+        wire,
+        number,
+        start,
+        len,
+        next,
+    } = *record;
+    Ok(format!(in alloc;
+        "field {field} wire {wire} number {number} start {start} len {len} next {next}"
+    )?)
+}
+
+/// The shortest varint of a number, and what is read of it again.
+pub(crate) fn varint(alloc: Global, word: &str) -> Result<String, Failure> {
+    let number = number(word)?;
+    let mut bytes = Bytes::new(alloc);
+    put_varint(&mut bytes, number)?;
+    let size = varint_size(number);
+    let digits = hexadecimal(alloc, bytes.as_slice())?;
+    Ok(format!(in alloc; "{digits} size {size}")?)
+}
+
+/// The varint that bytes begin with, and how many bytes follow it.
+pub(crate) fn varint_of(alloc: Global, words: &str) -> Result<String, Failure> {
+    let bytes = bytes_of(alloc, words)?;
+    match varint_in(bytes.len(), bytes.as_slice()) {
+        Ok((number, rest)) => varint_text(alloc, number, rest.len()),
+        Err(fault) => fault_text(alloc, fault),
+    }
+}
+
+fn varint_text(alloc: Global, number: u64, rest: usize) -> Result<String, Failure> {
+    Ok(format!(in alloc; "number {number} rest {rest}")?)
+}
+
+/// The record of a field with bytes: `FIELD BYTES`.
+pub(crate) fn field_with_bytes(alloc: Global, words: &str) -> Result<String, Failure> {
+    let (field, rest) = words.split_once(' ').unwrap_or((words, ""));
+    let payload = bytes_of(alloc, rest)?;
+    let field = field_of(field)?;
+    let mut bytes = Bytes::new(alloc);
+    put_field(&mut bytes, field, payload.as_slice())?;
+    hexadecimal(alloc, bytes.as_slice())
+}
+
+fn field_of(word: &str) -> Result<u32, Failure> {
+    match word.parse::<u32>() {
+        Ok(field) => Ok(field),
+        Err(_) => Err(Failure::Row),
+    }
+}
+
+fn put_field(into: &mut Bytes, field: u32, payload: &[u8]) -> Result<(), Failure> {
+    if !(1..=536_870_911).contains(&field) {
+        return Err(Failure::Row);
+    }
+    Ok(put_bytes(into, field, payload)?)
+}

@@ -1,0 +1,7 @@
+use Rattle.std.proofs.Common.{◌≡◌, ◌++◌, take}
+use Rattle.message_text.specs.Lines.{message_lines}
+use Rattle.message_text.proofs.answer_text.put_messages.Given as goal
+
+-- the lines so far are added
+abbrev pub invariant-loop-message : goal.invariant-loop-message
+invariant-loop-message l = l.into ≡ l.initial.into ++ message_lines (take l.message-index l.messages)
