@@ -6,9 +6,9 @@ use proto_wire::{Bytes, DecodeFault, Same, Text, TryClone};
 use std::alloc::Global;
 use std::cmp::Ordering;
 use typed_values::{
-    NameFault, TypeName, decode_address, decode_delay, decode_egress, decode_letter, decode_sender,
-    decode_value, encode_address, encode_delay, encode_egress, encode_letter, encode_sender,
-    encode_value, parse_name, parse_type_name,
+    NameFault, Sender, TypeName, decode_address, decode_delay, decode_egress, decode_letter,
+    decode_sender, decode_value, encode_address, encode_delay, encode_egress, encode_letter,
+    encode_sender, encode_value, parse_name, parse_type_name,
 };
 
 /// The two parts of a name.
@@ -112,23 +112,26 @@ fn is_same(alloc: Global, first: &[u8], second: &[u8]) -> Result<bool, Failure> 
     Ok(first.is_same(&second))
 }
 
-/// How two addresses, with `|` between them, are ordered.
+/// How two senders, with `|` between them, are ordered, and whether they are equal.
 pub(crate) fn order(alloc: Global, words: &str) -> Result<String, Failure> {
     let (first, second) = words.split_once('|').ok_or(Failure::Row)?;
     let first = bytes_of(alloc, first)?;
     let second = bytes_of(alloc, second)?;
-    owned(
-        alloc,
-        order_word(alloc, first.as_slice(), second.as_slice())?,
-    )
+    let first = decode_sender(alloc, first.as_slice())?;
+    let second = decode_sender(alloc, second.as_slice())?;
+    let order = order_word(&first, &second);
+    let equality = equality_word(&first, &second);
+    Ok(format!(in alloc; "{order} {equality}")?)
 }
 
-fn order_word(alloc: Global, first: &[u8], second: &[u8]) -> Result<&'static str, Failure> {
-    let first = decode_sender(alloc, first)?;
-    let second = decode_sender(alloc, second)?;
-    match first.cmp(&second) {
-        Ordering::Less => Ok("less"),
-        Ordering::Equal => Ok("equal"),
-        Ordering::Greater => Ok("greater"),
+fn order_word(first: &Sender, second: &Sender) -> &'static str {
+    match first.cmp(second) {
+        Ordering::Less => "less",
+        Ordering::Equal => "same place",
+        Ordering::Greater => "greater",
     }
+}
+
+fn equality_word(first: &Sender, second: &Sender) -> &'static str {
+    if first == second { "equal" } else { "unequal" }
 }

@@ -3,7 +3,8 @@ use crate::digits::{bytes_of, hexadecimal, number};
 use crate::failure::Failure;
 use crate::told::{fault_text, owned};
 use proto_wire::{
-    Bytes, WireFault, WireRecord, next_record, put_bytes, put_varint, varint_in, varint_size,
+    Bytes, WireFault, WireRecord, eight_size, four_size, next_record, put_bytes, put_varint,
+    varint_in, varint_size, with_eight, with_four,
 };
 use std::alloc::Global;
 
@@ -117,4 +118,37 @@ fn put_field(into: &mut Bytes, field: u32, payload: &[u8]) -> Result<(), Failure
         return Err(Failure::Row);
     }
     Ok(put_bytes(into, field, payload)?)
+}
+
+/// A number in four bytes in a field, and the size of that: `FIELD NUMBER`.
+pub(crate) fn four(alloc: Global, words: &str) -> Result<String, Failure> {
+    let (field, number) = words.split_once(' ').ok_or(Failure::Row)?;
+    let field = field_of(field)?;
+    match number.parse::<i32>() {
+        Ok(number) => fixed_text(
+            alloc,
+            with_four(Bytes::new(alloc), field, number)?,
+            four_size(field, number),
+        ),
+        Err(_) => Err(Failure::Row),
+    }
+}
+
+/// A number in eight bytes in a field, and the size of that: `FIELD NUMBER`.
+pub(crate) fn eight(alloc: Global, words: &str) -> Result<String, Failure> {
+    let (field, number) = words.split_once(' ').ok_or(Failure::Row)?;
+    let field = field_of(field)?;
+    match number.parse::<i64>() {
+        Ok(number) => fixed_text(
+            alloc,
+            with_eight(Bytes::new(alloc), field, number)?,
+            eight_size(field, number),
+        ),
+        Err(_) => Err(Failure::Row),
+    }
+}
+
+fn fixed_text(alloc: Global, bytes: Bytes, size: u64) -> Result<String, Failure> {
+    let digits = hexadecimal(alloc, bytes.as_slice())?;
+    Ok(format!(in alloc; "'{digits}' size {size}")?)
 }

@@ -1,9 +1,9 @@
 //! Requests and batches of a run in full.
 use crate::failure::Failure;
+use message_text::put_decimal;
 use proto_wire::{Bytes, List, Mem};
 use run_record::{Entry, Reply, Step, put_address, put_hex};
 use sf_outside::{Call, LinkEvent};
-use statefun_cli::put_decimal;
 use std::alloc::Global;
 use std::str;
 use typed_values::Sender;

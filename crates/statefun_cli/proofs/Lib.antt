@@ -15,3 +15,5 @@ pub mod Replayed
 pub mod Backing
 pub mod Apart
 pub mod Served
+pub mod DecodeAsked
+pub mod Decoding

@@ -6,3 +6,6 @@ pub mod Words
 pub mod Ends
 pub mod Running
 pub mod Plain
+pub mod Kinds
+pub mod DecodeWords
+pub mod Decode

@@ -2,9 +2,13 @@
 #![tactic(auto)]
 
 mod asking;
+mod decode;
+mod decode_words;
 mod drive;
 mod end;
+mod input;
 mod line;
+mod message_lines;
 mod output;
 mod polling;
 mod progress;
@@ -12,8 +16,9 @@ mod run;
 mod turn;
 mod words;
 
+pub use decode::{DecodeEnd, statefun_decode};
+pub use decode_words::{DecodeAsk, MessageKind, UnknownKind, read_decode_words};
 pub use end::{PlainEnd, PlainRun};
-pub use line::put_decimal;
 pub use output::write_whole;
 pub use run::statefun_run;
 pub use words::{Plan, WordsFault, read_words};

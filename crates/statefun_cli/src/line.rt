@@ -5,6 +5,7 @@ ghost use Rattle.run_record.specs.Egress.{StartsAs, address_text};
 ghost use Rattle.statefun_cli.specs.Ends.{status_of, flaw_name, reason_text, reasons_text, end_line};
 
 use crate::PlainEnd;
+use message_text::put_decimal;
 use proto_wire::{Bytes, Mem};
 use request_reply::{FlawKind, Reason};
 use run_record::put_address;
@@ -126,13 +127,4 @@ fn flaw_name(kind: FlawKind) -> &'static str
         FlawKind::NoNewName => "NoNewName",
         FlawKind::NotBuilt => "NotBuilt",
     }
-}
-
-/// Adds a number in decimal. An `Err` changes nothing.
-pub fn put_decimal(alloc: Global, into: &mut Bytes, number: u64) -> Mem<()>
-    ensures ok { OnOk result (into.new ≡ into.old ++ decimal number) }
-    ensures err { OnErr result (into.new ≡ into.old) }
-{
-    let text = number.to_string(alloc)?;
-    into.append(text.as_str().as_bytes())
 }

@@ -3,6 +3,7 @@ use Rattle.std.specs.Prelude.{codes}
 use Rattle.message_text.specs.Lines.{address_part}
 use Rattle.message_text.proofs.request_text.put_target.Goals as goal
 
+-- parts that are added one after another
 three-parts : (old one two three a b c : List ℕ) → one ≡ old ++ a → two ≡ one ++ b → three ≡ two ++ c → three ≡ old ++ (a ++ (b ++ c))
 three-parts old one two three a b c e f g = rw (g, f, e) (simp append_assoc)
 

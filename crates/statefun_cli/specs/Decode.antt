@@ -1,0 +1,144 @@
+-- What `statefun decode` writes, and when.
+use Rattle.std.specs.Prelude.{◌≡◌, ◌⊎◌, ◌≤◌, ◌+◌, ℕ, List, [], ◌∷◌, ◌++◌, codes, length, take, nat_lt, if◌then◌else◌, Option, Some, None, Result, Ok, Err}
+use Rattle.proto_wire.specs.declared.fault.WireFault.{WireFault}
+use Rattle.proto_wire.specs.declared.fault.WireKind.TheVariants.{OverLimit}
+use Rattle.proto_wire.specs.Varint.{◌>>=◌}
+use Rattle.sf_outside.specs.declared.fault.Fault.{Fault}
+use Rattle.sf_outside.specs.declared.fault.Fault.TheVariants.{Failed, OutOfMemory}
+use Rattle.sf_outside.specs.Told.{HasCause, more}
+use Rattle.sf_outside.specs.Left.{AtEnd, ahead}
+use Rattle.request_reply.specs.Spelling.{to_value, from_value}
+use Rattle.message_text.specs.Lines.{answer_lines, fault_line, request_lines}
+use Rattle.statefun_cli.specs.declared.decode_words.MessageKind.{MessageKind}
+use Rattle.statefun_cli.specs.declared.decode_words.MessageKind.TheVariants.{Request, Answer}
+use Rattle.statefun_cli.specs.declared.decode_words.DecodeAsk.{DecodeAsk}
+use Rattle.statefun_cli.specs.declared.decode_words.DecodeAsk.TheVariants.{Lines, Help as HelpAsked, Usage as UsageAsked}
+use Rattle.statefun_cli.specs.declared.decode.DecodeEnd.{DecodeEnd}
+use Rattle.statefun_cli.specs.declared.decode.DecodeEnd.TheVariants.{Decoded, Faulty, Help, Usage, ReadFault}
+use Rattle.statefun_cli.specs.DecodeWords.{AsksFor}
+
+-- ---- the text
+
+-- the most bytes of a message
+abbrev pub limit : ℕ
+limit = 8388608
+
+-- the lines of the message that the bytes spell, or their first fault
+unfoldable pub spelled_lines : MessageKind → List ℕ → Result (List ℕ) WireFault
+spelled_lines Request bytes = to_value bytes >>= λ request. Ok (request_lines request)
+spelled_lines Answer bytes = from_value bytes >>= λ answer. Ok (answer_lines answer)
+
+-- and more bytes than the limit are a fault at the limit
+abbrev pub lines_of : MessageKind → List ℕ → Result (List ℕ) WireFault
+lines_of kind bytes = if nat_lt limit (length bytes) then Err (record { kind = OverLimit; at = limit }) else spelled_lines kind bytes
+
+abbrev pub text_by : Result (List ℕ) WireFault → List ℕ
+text_by (Ok lines) = lines
+text_by (Err fault) = fault_line fault
+
+abbrev pub end_by : Result (List ℕ) WireFault → DecodeEnd
+end_by (Ok lines) = Decoded
+end_by (Err fault) = Faulty
+
+-- what is written of the bytes of a message
+abbrev pub decode_text : MessageKind → List ℕ → List ℕ
+decode_text kind bytes = text_by (lines_of kind bytes)
+
+-- and how that ends
+abbrev pub decode_end : MessageKind → List ℕ → DecodeEnd
+decode_end kind bytes = end_by (lines_of kind bytes)
+
+-- the status of an end; an `Err` is the sink's fault or want of memory
+abbrev pub decode_status : Result DecodeEnd Fault → ℕ
+decode_status (Ok Decoded) = 0
+decode_status (Ok Help) = 0
+decode_status (Ok Usage) = 2
+decode_status (Ok Faulty) = 4
+decode_status (Ok ReadFault) = 9
+decode_status (Err Failed) = 11
+decode_status (Err OutOfMemory) = 15
+
+-- ---- what stands outside
+
+-- what a source has left and a sink holds, where they tell it, and how often each failed
+pub record Outside : Type 0 where
+  pub left : Option (List ℕ)
+  pub reads : ℕ
+  pub written : Option (List ℕ)
+  pub writes : ℕ
+
+abbrev pub outside : Option (List ℕ) → ℕ → Option (List ℕ) → ℕ → Outside
+outside left reads written writes = record { left = left; reads = reads; written = written; writes = writes }
+
+-- nothing was read
+abbrev pub IsUnread : Outside → Outside → Type 0
+IsUnread before after = (after.left ≡ before.left) × (after.reads ≡ before.reads)
+
+-- An end was told: its text was written whole. Where the sink failed or memory ran out, a part of it was, from the front.
+abbrev pub Tells : Option (List ℕ) → Option (List ℕ) → List ℕ → DecodeEnd → Result DecodeEnd Fault → Type 0
+Tells before after text told (Ok end) = (end ≡ told) × (after ≡ more before text)
+Tells before after text told (Err fault) = (k : ℕ) × (k ≤ length text) × (after ≡ more before (take k text))
+
+-- bytes up to the limit are all that there were
+abbrev pub IsWhole : List ℕ → Option (List ℕ) → Type 0
+IsWhole heard left = length heard ≤ limit → AtEnd left
+
+-- What becomes of the bytes that were heard, by how the reading ended: they are all, or too many, and their text is told; a
+-- read failed, which is told; or memory ran out.
+abbrev pub IsSettled : Result (Unit {0}) Fault → MessageKind → List ℕ → Outside → Outside → Result DecodeEnd Fault → Type 0
+IsSettled (Ok x) kind heard before after end = IsWhole heard after.left × Tells before.written after.written (decode_text kind heard) (decode_end kind heard) end
+IsSettled (Err Failed) kind heard before after end = Tells before.written after.written (codes "read fault" ++ 10 ∷ []) ReadFault end
+IsSettled (Err OutOfMemory) kind heard before after end = (end ≡ Err OutOfMemory) × (after.written ≡ before.written)
+
+-- A message of this kind was read, up to one byte past the limit, and what became of it. The source failed exactly where its
+-- reading ended so.
+pub record IsDecoded (kind : MessageKind) (before after : Outside) (end : Result DecodeEnd Fault) : Type 0 where
+  pub heard : List ℕ
+  pub taken : before.left ≡ ahead heard after.left
+  pub bound : length heard ≤ limit + 1
+  pub read : Result (Unit {0}) Fault
+  pub read_cause : HasCause before.reads after.reads read
+  pub settled : IsSettled read kind heard before after end
+
+-- what was asked for was done; nothing where memory ran out at the words
+abbrev pub IsAnswered : Option DecodeAsk → Outside → Outside → Result DecodeEnd Fault → Type 0
+IsAnswered None before after end = IsUnread before after × (end ≡ Err OutOfMemory) × (after.written ≡ before.written)
+IsAnswered (Some (Lines kind)) before after end = IsDecoded kind before after end
+IsAnswered (Some (HelpAsked text)) before after end = IsUnread before after × Tells before.written after.written text Help end
+IsAnswered (Some UsageAsked) before after end = IsUnread before after × Tells before.written after.written (codes "usage" ++ 10 ∷ []) Usage end
+
+abbrev pub IsAsked : List (List ℕ) → Option DecodeAsk → Type 0
+IsAsked words None = Unit {0}
+IsAsked words (Some ask) = AsksFor words ask
+
+-- A run of the command, up to its end: what its words ask for was done. The sink failed exactly where the end is its fault.
+pub record IsAskedRun (words : List (List ℕ)) (before after : Outside) (end : Result DecodeEnd Fault) : Type 0 where
+  pub ask : Option DecodeAsk
+  pub asked : IsAsked words ask
+  pub answered : IsAnswered ask before after end
+  pub sink_cause : HasCause before.writes after.writes end
+
+-- and to its status
+pub record IsDecodeRun (words : List (List ℕ)) (before after : Outside) (status : ℕ) : Type 0 where
+  pub end : Result DecodeEnd Fault
+  pub status_is : status ≡ decode_status end
+  pub run : IsAskedRun words before after end
+
+-- A run on right words decodes a message of their kind.
+pub record IsRightRun (kind : MessageKind) (before after : Outside) (status : ℕ) : Type 0 where
+  pub end : Result DecodeEnd Fault
+  pub status_is : status ≡ decode_status end
+  pub decoded : IsDecoded kind before after end
+  pub sink_cause : HasCause before.writes after.writes end
+
+-- A run that is asked for help by `-h` or `--help` writes a text, and reads nothing.
+abbrev pub AsksForHelp : List (List ℕ) → Type 0
+AsksForHelp words = (first : List ℕ) × ((words ≡ first ∷ codes "-h" ∷ []) ⊎ (words ≡ first ∷ codes "--help" ∷ []))
+
+pub record IsHelpRun (before after : Outside) (status : ℕ) : Type 0 where
+  pub end : Result DecodeEnd Fault
+  pub status_is : status ≡ decode_status end
+  pub unread : IsUnread before after
+  pub text : List ℕ
+  pub told : Tells before.written after.written text Help end
+  pub sink_cause : HasCause before.writes after.writes end
