@@ -1,8 +1,7 @@
 //! Rows on byte strings, texts and lists.
-use crate::digits::{bytes_of, hexadecimal, number};
-use crate::failure::Failure;
 use crate::told::owned;
 use proto_wire::{Bytes, List, Same, Text, TryClone};
+use row_text::{Failure, bytes_of, number_of};
 use std::alloc::Global;
 
 /// The text that bytes are, its length, and its bytes again.
@@ -17,7 +16,7 @@ fn text_again(alloc: Global, text: Text) -> Result<String, Failure> {
     let len = text.len();
     let emptiness = emptiness(text.is_empty());
     let bytes = text.into_bytes().into_vec();
-    let digits = hexadecimal(alloc, bytes.as_slice())?;
+    let digits = hex::encode(alloc, bytes.as_slice())?;
     Ok(format!(in alloc; "{emptiness} len {len} bytes '{digits}'")?)
 }
 
@@ -39,9 +38,9 @@ pub(crate) fn appended(alloc: Global, words: &str) -> Result<String, Failure> {
 pub(crate) fn first_bytes(alloc: Global, words: &str) -> Result<String, Failure> {
     let (count, rest) = words.split_once(' ').unwrap_or((words, ""));
     let mut bytes = Bytes::of(bytes_of(alloc, rest)?.into_vec());
-    bytes.truncate(number(count)? as usize);
+    bytes.truncate(number_of(count)? as usize);
     let emptiness = emptiness(bytes.is_empty());
-    let digits = hexadecimal(alloc, bytes.as_slice())?;
+    let digits = hex::encode(alloc, bytes.as_slice())?;
     Ok(format!(in alloc; "{emptiness} '{digits}'")?)
 }
 
@@ -75,7 +74,7 @@ fn is_same_word(is_same: bool) -> &'static str {
 fn items_text(alloc: Global, items: &[Bytes]) -> Result<String, Failure> {
     let mut text = String::new(alloc);
     for item in items {
-        let digits = hexadecimal(alloc, item.as_slice())?;
+        let digits = hex::encode(alloc, item.as_slice())?;
         write!(text, " '{digits}'")?;
     }
     Ok(text)

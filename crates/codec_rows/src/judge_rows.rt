@@ -1,9 +1,8 @@
 //! Rows on which answers are valid.
-use crate::digits::bytes_of;
-use crate::failure::Failure;
 use crate::told::{fault_text, owned};
 use proto_wire::{List, Mem, Text};
 use request_reply::{Flaw, Judged, judge};
+use row_text::{Failure, bytes_of};
 use std::alloc::Global;
 use typed_values::TypeName;
 

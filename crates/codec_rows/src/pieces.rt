@@ -1,8 +1,8 @@
 //! Requests and answers that come in pieces.
-use crate::failure::Failure;
 use crate::whole::{Spelled, Whole, whole_text};
 use proto_wire::{Bytes, DecodeFault, Mem};
 use request_reply::Feeder;
+use row_text::Failure;
 use std::alloc::Global;
 
 /// Reads bytes one by one and in two pieces at every cut, from a feeder and as pieces, and tells whether the text was always this one.

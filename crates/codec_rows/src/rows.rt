@@ -16,12 +16,12 @@
 //! | `size BYTES` | the size of a letter in a request |
 //! | `judge BYTES` | `accept`, or the flaw |
 use crate::container_rows::{appended, first_bytes, listed, utf8};
-use crate::failure::Failure;
 use crate::judge_rows::judged;
 use crate::stored_rows::{copied, name, order, same, stored};
 use crate::whole_rows::{letter_size, limited, whole_row};
 use crate::wire_rows::{eight, field_with_bytes, four, record_within, records, varint, varint_of};
 use crate::wrapped_rows::{held, made, wrapped};
+use row_text::Failure;
 use std::alloc::Global;
 
 /// What a row, `KIND WORDS`, comes to.

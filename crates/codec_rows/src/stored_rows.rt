@@ -1,8 +1,7 @@
 //! Rows on names, addresses, values, senders, letters, delayed letters and egress records.
-use crate::digits::bytes_of;
-use crate::failure::Failure;
 use crate::told::{owned, spelled};
 use proto_wire::{Bytes, DecodeFault, Same, Text, TryClone};
+use row_text::{Failure, bytes_of};
 use std::alloc::Global;
 use std::cmp::Ordering;
 use typed_values::{

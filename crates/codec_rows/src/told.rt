@@ -1,13 +1,12 @@
 //! What is told of bytes and faults.
-use crate::digits::hexadecimal;
-use crate::failure::Failure;
 use proto_wire::{Bytes, DecodeFault, WireFault};
+use row_text::Failure;
 use std::alloc::Global;
 
 /// The bytes in hexadecimal, or the fault.
 pub(crate) fn spelled(alloc: Global, read: Result<Bytes, DecodeFault>) -> Result<String, Failure> {
     match read {
-        Ok(bytes) => hexadecimal(alloc, bytes.as_slice()),
+        Ok(bytes) => Ok(hex::encode(alloc, bytes.as_slice())?),
         Err(DecodeFault::Wire(fault)) => fault_text(alloc, fault),
         Err(DecodeFault::OutOfMemory) => Err(Failure::OutOfMemory),
     }

@@ -1,12 +1,11 @@
 //! Requests and answers, decoded in each way that there is.
-use crate::digits::hexadecimal;
-use crate::failure::Failure;
 use crate::told::fault_text;
 use proto_wire::{Bytes, DecodeFault};
 use request_reply::{
     Feeder, FromFunction, ToFunction, decode_from, decode_pieces_from, decode_pieces_to, decode_to,
     encode_from, encode_to, size_from, size_to,
 };
+use row_text::Failure;
 use std::alloc::Global;
 
 /// Which message bytes are read as.
@@ -93,7 +92,7 @@ pub(crate) fn whole_text(
 }
 
 fn spelled_text(alloc: Global, spelled: &Spelled) -> Result<String, Failure> {
-    let digits = hexadecimal(alloc, spelled.bytes.as_slice())?;
+    let digits = hex::encode(alloc, spelled.bytes.as_slice())?;
     let size = spelled.size;
     Ok(format!(in alloc; "{digits} size {size}")?)
 }

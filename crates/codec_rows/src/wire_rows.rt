@@ -1,11 +1,10 @@
 //! Rows on the records of the wire format.
-use crate::digits::{bytes_of, hexadecimal, number};
-use crate::failure::Failure;
 use crate::told::{fault_text, owned};
 use proto_wire::{
     Bytes, WireFault, WireRecord, eight_size, four_size, next_record, put_bytes, put_varint,
     varint_in, varint_size, with_eight, with_four,
 };
+use row_text::{Failure, bytes_of, number_of};
 use std::alloc::Global;
 
 /// The records of a message from its begin to its end or first fault, each in a line.
@@ -37,7 +36,7 @@ pub(crate) fn record_within(alloc: Global, words: &str) -> Result<String, Failur
 }
 
 fn place_of(word: &str) -> Result<usize, Failure> {
-    Ok(number(word)? as usize)
+    Ok(number_of(word)? as usize)
 }
 
 /// The record at a place; no record where the places are none of the bytes.
@@ -75,11 +74,11 @@ fn record_text(alloc: Global, record: &WireRecord) -> Result<String, Failure> {
 
 /// The shortest varint of a number, and what is read of it again.
 pub(crate) fn varint(alloc: Global, word: &str) -> Result<String, Failure> {
-    let number = number(word)?;
+    let number = number_of(word)?;
     let mut bytes = Bytes::new(alloc);
     put_varint(&mut bytes, number)?;
     let size = varint_size(number);
-    let digits = hexadecimal(alloc, bytes.as_slice())?;
+    let digits = hex::encode(alloc, bytes.as_slice())?;
     Ok(format!(in alloc; "{digits} size {size}")?)
 }
 
@@ -103,7 +102,7 @@ pub(crate) fn field_with_bytes(alloc: Global, words: &str) -> Result<String, Fai
     let field = field_of(field)?;
     let mut bytes = Bytes::new(alloc);
     put_field(&mut bytes, field, payload.as_slice())?;
-    hexadecimal(alloc, bytes.as_slice())
+    Ok(hex::encode(alloc, bytes.as_slice())?)
 }
 
 fn field_of(word: &str) -> Result<u32, Failure> {
@@ -149,6 +148,6 @@ pub(crate) fn eight(alloc: Global, words: &str) -> Result<String, Failure> {
 }
 
 fn fixed_text(alloc: Global, bytes: Bytes, size: u64) -> Result<String, Failure> {
-    let digits = hexadecimal(alloc, bytes.as_slice())?;
+    let digits = hex::encode(alloc, bytes.as_slice())?;
     Ok(format!(in alloc; "'{digits}' size {size}")?)
 }

@@ -1,8 +1,7 @@
 //! Rows on values of the shipped types.
-use crate::digits::{bytes_of, hexadecimal};
-use crate::failure::Failure;
 use crate::told::owned;
 use proto_wire::{Bytes, Text};
+use row_text::{Failure, bytes_of};
 use std::alloc::Global;
 use typed_values::{
     TypedValue, bool_of, bool_value, decode_value, encode_value, int_of, int_value, long_of,
@@ -88,7 +87,7 @@ pub(crate) fn made(alloc: Global, kind: &str, word: &str) -> Result<String, Fail
 
 fn value_text(alloc: Global, value: &TypedValue) -> Result<String, Failure> {
     let bytes = encode_value(alloc, value)?;
-    hexadecimal(alloc, bytes.as_slice())
+    Ok(hex::encode(alloc, bytes.as_slice())?)
 }
 
 fn bool_made(alloc: Global, word: &str) -> Result<String, Failure> {

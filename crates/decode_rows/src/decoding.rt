@@ -1,10 +1,7 @@
 //! The decoding of a row.
-use crate::digits::bytes_of;
-use crate::failing::{Failing, failing_of};
-use crate::failure::Failure;
 use crate::row::Row;
-use crate::words::words_of;
 use proto_wire::Bytes;
+use row_text::{Failure, bytes_of, calls_of, words_of};
 use sf_outside::{Fault, MemorySink, MemorySource, Source};
 use statefun_cli::statefun_decode;
 use std::alloc::Global;
@@ -24,7 +21,8 @@ pub(crate) struct Decoded {
 pub(crate) fn decode(alloc: Global, row: &Row) -> Result<Decoded, Failure> {
     let words = words_of(alloc, row.words)?;
     let message = bytes_of(alloc, row.message)?;
-    let Failing { reads, writes } = failing_of(alloc, row.failing)?;
+    let reads = calls_of(alloc, row.failing, "read:")?;
+    let writes = calls_of(alloc, row.failing, "write:")?;
     let given = message.len();
     let mut input = MemorySource::new(alloc, message, reads)?;
     let mut out = MemorySink::new(alloc, Bytes::new(alloc), writes)?;

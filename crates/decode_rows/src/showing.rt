@@ -1,9 +1,8 @@
 //! What is printed of a row.
 use crate::decoding::{Decoded, decode, left_in};
-use crate::failure::Failure;
 use crate::row::row_of;
+use row_text::{Failure, put_written, text_in};
 use std::alloc::Global;
-use std::str;
 
 /// What came of a row, line by line, each with two blanks before it.
 pub(crate) fn shown(alloc: Global, line: &str) -> Result<String, Failure> {
@@ -37,26 +36,5 @@ fn part_left(given: usize, left: usize) -> &'static str {
 
 fn put_end(alloc: Global, text: &mut String, status: u8, left: &str) -> Result<(), Failure> {
     text.push_str(format!(in alloc; "  status {status}; left {left}\n")?.as_str())?;
-    Ok(())
-}
-
-/// The text that bytes are.
-fn text_in(bytes: &[u8]) -> Result<&str, Failure> {
-    match str::from_utf8(bytes) {
-        Ok(text) => Ok(text),
-        Err(_) => Err(Failure::Row),
-    }
-}
-
-/// Adds what the sink holds.
-fn put_written(text: &mut String, written: &str) -> Result<(), Failure> {
-    for line in written.lines() {
-        text.push_str("  ")?;
-        text.push_str(line)?;
-        text.push_str("\n")?;
-    }
-    if !written.is_empty() && !written.ends_with("\n") {
-        text.push_str("  with no line feed\n")?;
-    }
     Ok(())
 }

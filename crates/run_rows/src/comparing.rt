@@ -1,6 +1,6 @@
 //! What a replayed machine holds, beside what was written.
-use crate::failure::Failure;
 use proto_wire::{Bytes, Mem, Text, TryClone};
+use row_text::Failure;
 use run_record::{Machine, Module, put_address, put_egress_line};
 use sf_outside::IngressRecord;
 use std::alloc::Global;

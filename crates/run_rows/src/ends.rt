@@ -1,9 +1,7 @@
 //! Lines of ends that no run comes to yet: endpoints that failed for several reasons.
-use crate::escaping::text_of;
-use crate::failing::number_of;
-use crate::failure::Failure;
 use proto_wire::{Bytes, List, Mem, Text};
 use request_reply::{Flaw, FlawKind, Reason};
+use row_text::{Failure, number_of, text_of};
 use statefun_cli::PlainEnd;
 use std::alloc::Global;
 use typed_values::{Address, TypeName};

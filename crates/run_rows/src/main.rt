@@ -5,9 +5,6 @@
 mod comparing;
 mod detail;
 mod ends;
-mod escaping;
-mod failing;
-mod failure;
 mod making;
 mod records;
 mod replays;
@@ -16,41 +13,20 @@ mod script;
 mod showing;
 mod words;
 
-use failure::Failure;
+use row_text::{Failure, Rows, show_rows};
 use showing::shown;
-use std::io::{BufRead, BufReader};
+use std::alloc::Global;
 use std::process::ExitCode;
 
+#[derive(Drop)]
+struct RunRows;
+
+impl Rows for RunRows {
+    fn shown(&self, alloc: Global, row: &str) -> Result<String, Failure> {
+        shown(alloc, row)
+    }
+}
+
 fn main(rt: HostRuntime) -> ExitCode {
-    match run(&rt) {
-        Ok(()) => ExitCode::SUCCESS,
-        Err(failure) => ended(&rt, failure),
-    }
-}
-
-/// Tells a failure on standard error, and gives its status.
-fn ended(rt: &HostRuntime, failure: Failure) -> ExitCode {
-    let text = failure.text();
-    let _told = eprintln!(rt; "run_rows: {text}");
-    ExitCode::from(failure.status())
-}
-
-/// Shows each line.
-fn run(rt: &HostRuntime) -> Result<(), Failure> {
-    for line in BufReader::new(rt.alloc(), rt.reader())?.lines(rt.alloc()) {
-        let line = line?;
-        show(rt, line.as_str())?;
-    }
-    Ok(())
-}
-
-/// Prints a line, and what came of it where it is a row.
-fn show(rt: &HostRuntime, line: &str) -> Result<(), Failure> {
-    println!(rt; "{line}")?;
-    if line.is_empty() || line.starts_with("#") {
-        return Ok(());
-    }
-    let text = shown(rt.alloc(), line)?;
-    print!(rt; "{text}")?;
-    Ok(())
+    show_rows(&rt, "run_rows", &RunRows)
 }

@@ -1,11 +1,10 @@
 //! The run of a row.
-use crate::failing::{Failing, failing_of};
-use crate::failure::Failure;
 use crate::records::splits_of;
 use crate::row::Row;
 use crate::script::turns_of;
 use crate::words::words_of;
 use proto_wire::{Bytes, List};
+use row_text::{Failure, calls_of};
 use run_record::Entry;
 use sf_outside::{MemoryIngress, MemorySink, ScriptLink};
 use statefun_cli::{PlainRun, statefun_run};
@@ -24,13 +23,11 @@ pub(crate) struct Made {
 /// Makes the run of a row.
 pub(crate) fn make(alloc: Global, row: &Row) -> Result<Made, Failure> {
     let words = words_of(alloc, row.words)?;
-    let Failing {
-        reads,
-        link,
-        writes,
-    } = failing_of(alloc, row.failing)?;
-    let ingress = MemoryIngress::new(alloc, splits_of(alloc, row.records)?, reads)?;
-    let link = ScriptLink::new(alloc, turns_of(alloc, row.script)?, link)?;
+    let splits = splits_of(alloc, row.records)?;
+    let ingress = MemoryIngress::new(alloc, splits, calls_of(alloc, row.failing, "read:")?)?;
+    let turns = turns_of(alloc, row.script)?;
+    let link = ScriptLink::new(alloc, turns, calls_of(alloc, row.failing, "link:")?)?;
+    let writes = calls_of(alloc, row.failing, "write:")?;
     let out = MemorySink::new(alloc, Bytes::new(alloc), writes)?;
     Ok(ran(alloc, words.as_slice(), ingress, link, out))
 }

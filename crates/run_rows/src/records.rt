@@ -1,7 +1,6 @@
 //! The records of a row.
-use crate::escaping::{bytes_of, text_of};
-use crate::failure::Failure;
 use proto_wire::{Bytes, List, Mem, Text};
+use row_text::{Failure, bytes_of, text_of};
 use sf_outside::IngressRecord;
 use std::alloc::Global;
 

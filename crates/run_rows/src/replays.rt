@@ -1,10 +1,10 @@
 //! The replay of a run's record.
 use crate::comparing::{Held, held_of};
-use crate::failure::Failure;
 use crate::records::{records_of, splits_of};
 use crate::row::Row;
 use crate::words::words_of;
 use proto_wire::List;
+use row_text::Failure;
 use run_record::{Entry, Machine, Replayed, Routes, replay};
 use sf_outside::MemoryIngress;
 use statefun_cli::{Plan, WordsFault, read_words};

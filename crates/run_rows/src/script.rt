@@ -1,10 +1,8 @@
 //! The link's script of a row.
 ghost use Rattle.std.specs.Prelude.{◌≤◌, length};
 
-use crate::escaping::{bytes_of, text_of};
-use crate::failing::number_of;
-use crate::failure::Failure;
 use proto_wire::{Bytes, List, Mem};
+use row_text::{Failure, bytes_of, number_of, text_of};
 use sf_outside::Turn;
 use std::alloc::Global;
 

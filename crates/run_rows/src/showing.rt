@@ -2,15 +2,14 @@
 use crate::comparing::Held;
 use crate::detail::{put_batches, put_starts};
 use crate::ends::end_of;
-use crate::failure::Failure;
 use crate::making::{Made, make};
 use crate::replays::{Again, replay_row};
 use crate::row::{Row, row_of};
 use proto_wire::Bytes;
+use row_text::{Failure, put_written, text_in};
 use run_record::{Entry, Step};
 use sf_outside::{Call, LinkEvent};
 use std::alloc::Global;
-use std::str;
 
 /// What came of a row, line by line, each with two blanks before it.
 pub(crate) fn shown(alloc: Global, line: &str) -> Result<String, Failure> {
@@ -52,27 +51,6 @@ fn put_run(alloc: Global, text: &mut String, row: &Row, made: &Made) -> Result<(
     if row.detail == "full" {
         put_starts(alloc, text, made.link.journal().as_slice())?;
         put_batches(alloc, text, made.entries.as_slice())?;
-    }
-    Ok(())
-}
-
-/// The text that bytes are.
-fn text_in(bytes: &[u8]) -> Result<&str, Failure> {
-    match str::from_utf8(bytes) {
-        Ok(text) => Ok(text),
-        Err(_) => Err(Failure::Row),
-    }
-}
-
-/// Adds what the sink holds.
-fn put_written(text: &mut String, written: &str) -> Result<(), Failure> {
-    for line in written.lines() {
-        text.push_str("  ")?;
-        text.push_str(line)?;
-        text.push_str("\n")?;
-    }
-    if !written.is_empty() && !written.ends_with("\n") {
-        text.push_str("  with no line feed\n")?;
     }
     Ok(())
 }

@@ -1,11 +1,12 @@
-//! Why the program gave up.
-use proto_wire::OutOfMemory;
+//! Why a program of rows gives up.
+use hex::FromHexError;
+use proto_wire::{DecodeFault, OutOfMemory};
 use std::alloc::{AllocError, AllocFailed};
 use std::io;
 
-/// Why the program gave up.
+/// Why a program of rows gives up.
 #[derive(Clone, Copy, Debug, PartialEq, Eq)]
-pub(crate) enum Failure {
+pub enum Failure {
     /// A row is not of its form.
     Row,
     /// A call could not get the memory that it asked for.
@@ -16,7 +17,7 @@ pub(crate) enum Failure {
 
 impl Failure {
     /// The exit status that tells of it.
-    pub(crate) fn status(self) -> u8 {
+    pub fn status(self) -> u8 {
         match self {
             Failure::Row => 3,
             Failure::OutOfMemory => 4,
@@ -25,7 +26,7 @@ impl Failure {
     }
 
     /// What is told of it.
-    pub(crate) fn text(self) -> &'static str {
+    pub fn text(self) -> &'static str {
         match self {
             Failure::Row => "the row behind the last line is not of its form",
             Failure::OutOfMemory => "out of memory",
@@ -55,5 +56,25 @@ impl<T: Drop> From<AllocFailed<T>> for Failure {
 impl From<io::Error> for Failure {
     fn from(_: io::Error) -> Failure {
         Failure::System
+    }
+}
+
+impl From<DecodeFault> for Failure {
+    fn from(fault: DecodeFault) -> Failure {
+        match fault {
+            DecodeFault::Wire(_) => Failure::Row,
+            DecodeFault::OutOfMemory => Failure::OutOfMemory,
+        }
+    }
+}
+
+impl From<FromHexError> for Failure {
+    fn from(error: FromHexError) -> Failure {
+        match error {
+            FromHexError::OutOfMemory => Failure::OutOfMemory,
+            FromHexError::InvalidHexCharacter { .. }
+            | FromHexError::OddLength
+            | FromHexError::InvalidStringLength => Failure::Row,
+        }
     }
 }
