@@ -14,7 +14,7 @@ use Rattle.request_reply.specs.declared.judging.Judged.{Judged}
 use Rattle.request_reply.specs.declared.judging.Judged.TheVariants as judged
 use Rattle.request_reply.specs.Spelling.{from_value}
 use Rattle.request_reply.specs.Valid.{is_known, first_unknown, is_empty, has_egresses_alone, judged_egresses, judged_answer, flaw_not_built, wire_flaw, too_long, verdict}
-use Rattle.request_reply.specs.Flaws.{Setting, Pattern, egress_flaw, mutation_flaw, message_flaw, delayed_flaw, flaw_at, first_of_two, placed, first_in, result_flaw, read_flaw, first_flaw, Agrees}
+use Rattle.request_reply.specs.Flaws.{Setting, egress_flaw, flaw_at, first_of_two, placed, first_in, result_flaw, read_flaw, first_flaw, Agrees}
 
 abbrev unknown_at : Option ℕ → Option Flaw
 unknown_at None = None

@@ -1,14 +1,13 @@
 -- What steps leave in the queues, in the words of the state.
-use Rattle.std.proofs.Common.{◌≡◌, ◌∙◌, sym, ap, subst, refl, ℕ, ◌+◌, ◌-◌, ◌<◌, ◌≤◌, true≢false, List, [], ◌∷◌, ◌++◌, Bool, true, false, cond, map, filter, take, drop, get_or, length, count_by, slice_get, Option, Some, None, option_and_then, arith, append_assoc, append-nil, zero-add, map-id}
+use Rattle.std.proofs.Common.{◌≡◌, ◌∙◌, sym, ap, subst, refl, ℕ, ◌+◌, ◌<◌, ◌≤◌, true≢false, List, [], ◌∷◌, ◌++◌, Bool, true, false, cond, map, filter, drop, get_or, length, count_by, slice_get, Option, Some, None, option_and_then, arith, map-id}
 use Rattle.std.specs.Prelude.{◌&&◌, IsSome}
-use Rattle.std.specs.declared.cmp.Ordering.{Ordering}
 use Rattle.std.specs.Ordering.{is_eq}
 use Rattle.std.specs.Cmp.{IsTotalOrder, eq_by_cmp_equiv}
 use Rattle.std.proofs.lemmas.Cmp.{then_total, on_total, nat_list_cmp_total, nat_cmp_total}
 use Rattle.std.proofs.lemmas.Map.Views.{tells_apart}
 use Rattle.std.proofs.lemmas.Bool.Decides.{same_from_decides}
 use Rattle.std.proofs.lemmas.List.{drop-append-le}
-use Rattle.std.proofs.lemmas.Option.{slice_get_within, same_Some}
+use Rattle.std.proofs.lemmas.Option.{slice_get_within}
 use Rattle.typed_values.specs.declared.name.TypeName.{TypeName}
 use Rattle.typed_values.specs.declared.address.Address.{Address}
 use Rattle.typed_values.specs.declared.value.TypedValue.{TypedValue}
@@ -31,7 +30,7 @@ use Rattle.run_record.specs.declared.machine.Machine.{Machine}
 use Rattle.run_record.specs.declared.shelves.Placed.{Placed}
 use Rattle.run_record.specs.Keys.{name_order, address_order, sender_order, exact_names, exact_addresses, exact_senders}
 use Rattle.run_record.specs.Queues.{values_at, HasBehind, is_placed, SetsAt}
-use Rattle.run_record.specs.Machine.{State, Mail, posted_all, emitted, egress_name, argument_of, invocation_of, picked_behind, picked, unpicked, letters_from, seen_after, served, taken_after}
+use Rattle.run_record.specs.Machine.{Mail, posted_all, emitted, egress_name, invocation_of, picked_behind, picked, unpicked, letters_from, seen_after, served, taken_after}
 use Rattle.run_record.specs.Egress.{egress_record}
 use Rattle.run_record.specs.Deliveries.{arguments_of}
 use Rattle.run_record.specs.LawsOfEgress.{is_between, arguments_at, emitted_is}

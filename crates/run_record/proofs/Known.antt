@@ -1,7 +1,7 @@
 -- What is known on the way of a replay: lists over which the entries so far replay to the machine's state.
-use Rattle.std.proofs.Common.{◌≡◌, ◌∙◌, sym, ap, subst, refl, ℕ, ◌+◌, ◌<◌, ◌≤◌, zero, suc, List, [], ◌∷◌, ◌++◌, Bool, true, false, cond, take, length, get_or, slice_get, Option, Some, None, arith, append_assoc, append-nil, add-one, length-append, eq-eqb, ne_eqb, ⊎_elim}
-use Rattle.std.specs.Prelude.{is_some, unwrap_or, nat_eq, nat_lt}
-use Rattle.std.proofs.lemmas.Bool.{cases_eq, cond-false}
+use Rattle.std.proofs.Common.{◌≡◌, ◌∙◌, sym, ap, subst, refl, ℕ, ◌+◌, ◌<◌, ◌≤◌, zero, suc, List, [], ◌∷◌, ◌++◌, Bool, true, false, cond, take, length, get_or, slice_get, Option, Some, None, arith, append_assoc, append-nil, length-append, eq-eqb, ne_eqb, ⊎_elim}
+use Rattle.std.specs.Prelude.{is_some, unwrap_or, nat_lt}
+use Rattle.std.proofs.lemmas.Bool.{cases_eq}
 use Rattle.std.proofs.lemmas.Option.{slice_get_past, slice_get_read}
 use Rattle.std.proofs.lemmas.List.{take_more, take_all}
 use Rattle.sf_outside.specs.declared.ingress.IngressRecord.{IngressRecord}
@@ -14,10 +14,10 @@ use Rattle.run_record.specs.declared.entry.Reply.{Reply}
 use Rattle.run_record.specs.declared.machine.Machine.{Machine}
 use Rattle.run_record.specs.declared.replaying.Replayed.TheVariants.{State as Reached, NotAllowed}
 use Rattle.run_record.specs.Routing.{splits_in}
-use Rattle.run_record.specs.Machine.{State, first_state, taken_after, take_step, step_after, replayed, served}
+use Rattle.run_record.specs.Machine.{State, first_state, step_after, replayed, served}
 use Rattle.run_record.specs.Laws.{took, step_with, next_record, step_after-with, take_step-some, batch_step-some, replayed-grown, replayed_push_on}
 use Rattle.run_record.specs.StateOf.{state_of}
-use Rattle.run_record.specs.Replays.{AreListsOf, IsRefusedAt, Replays, ReadsNext, StepsOver}
+use Rattle.run_record.specs.Replays.{AreListsOf, Replays, StepsOver}
 
 -- the ingress' lists, where it tells them, or else the records that were taken
 abbrev pub Follow : Option Lists → Lists → State → Type 0

@@ -1,7 +1,7 @@
 -- Picks, one by one.
-use Rattle.std.proofs.Common.{◌≡◌, ◌∙◌, sym, ap, subst, refl, ℕ, ◌+◌, ◌-◌, ◌<◌, ◌≤◌, ◌⊎◌, inl, inr, List, [], ◌∷◌, ◌++◌, Bool, true, false, true≢false, cond, take, drop, get_or, length, count_by, slice_get, Option, Some, None, option_and_then, option_map, arith, append_assoc, append-nil, zero-add, drop-drop, length-take}
-use Rattle.std.proofs.lemmas.List.{take_more, drop_more, drop_all, take_all}
-use Rattle.std.proofs.lemmas.List.Sums.{sum_by-append, sum_by-cons, count_by-le-length}
+use Rattle.std.proofs.Common.{◌≡◌, ◌∙◌, sym, ap, subst, refl, ℕ, ◌+◌, ◌<◌, ◌≤◌, ◌⊎◌, inl, inr, List, [], ◌∷◌, ◌++◌, Bool, true, false, true≢false, cond, take, drop, get_or, length, count_by, slice_get, Option, Some, None, option_and_then, option_map, arith, append_assoc, append-nil, zero-add, drop-drop, length-take}
+use Rattle.std.proofs.lemmas.List.{take_more, drop_more, drop_all}
+use Rattle.std.proofs.lemmas.List.Sums.{sum_by-append, count_by-le-length}
 use Rattle.std.proofs.lemmas.Bool.{false_from_ne_true}
 use Rattle.typed_values.specs.declared.address.Address.{Address}
 use Rattle.typed_values.specs.declared.value.TypedValue.{TypedValue}

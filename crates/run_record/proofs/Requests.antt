@@ -1,10 +1,9 @@
 -- The request of a batch, from its parts.
-use Rattle.std.proofs.Common.{◌≡◌, ◌∙◌, sym, ap, subst, refl, ℕ, List, [], Bool, true, false, cond, map, Option, Some, None, option_and_then}
+use Rattle.std.proofs.Common.{◌≡◌, ◌∙◌, ℕ, List, Bool, cond, map, Some, None, option_and_then}
 use Rattle.typed_values.specs.declared.address.Address.{Address}
 use Rattle.typed_values.specs.declared.letter.Sender.{Sender}
 use Rattle.request_reply.specs.declared.request.ToFunction.{ToFunction}
 use Rattle.request_reply.specs.declared.request.BatchInvocation.{BatchInvocation}
-use Rattle.request_reply.specs.declared.request.PersistedValue.{PersistedValue}
 use Rattle.run_record.specs.declared.module.Module.{Module}
 use Rattle.run_record.specs.declared.module.Endpoint.{Endpoint}
 use Rattle.run_record.specs.Routing.{endpoint_of}

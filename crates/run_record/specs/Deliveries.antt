@@ -1,5 +1,5 @@
 -- What a record takes, puts into the mail, and delivers.
-use Rattle.std.specs.Prelude.{◌≡◌, ◌≤◌, count_by, ℕ, ◌+◌, nat_eq, zero, suc, List, [], ◌∷◌, ◌++◌, Bool, ◌&&◌, if◌then◌else◌, Option, Some, None, map, filter, option_and_then}
+use Rattle.std.specs.Prelude.{◌≡◌, ◌≤◌, count_by, ℕ, ◌+◌, nat_eq, zero, suc, List, [], ◌∷◌, ◌++◌, ◌&&◌, if◌then◌else◌, Option, Some, None, map, filter}
 use Rattle.std.specs.Option.{option_map_or}
 use Rattle.typed_values.specs.declared.address.Address.{Address}
 use Rattle.typed_values.specs.declared.value.TypedValue.{TypedValue}

@@ -1,7 +1,5 @@
 -- The orders of names, addresses and senders, and that what compares alike is one.
-use Rattle.std.specs.Prelude.{◌≡◌, List, ℕ}
 use Rattle.std.specs.declared.cmp.Ordering.{Ordering}
-use Rattle.std.specs.declared.cmp.Ordering.TheVariants.{Equal}
 use Rattle.std.specs.Ordering.{nat_cmp}
 use Rattle.std.specs.Cmp.Lexicographic.{slice_cmp}
 use Rattle.std.proofs.Common.{ap}

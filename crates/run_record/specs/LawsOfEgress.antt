@@ -1,6 +1,5 @@
 -- The egress of a record is the egress of the state that it replays to.
-use Rattle.std.specs.Prelude.{◌≡◌, ℕ, List, [], ◌∷◌, ◌++◌, Bool, true, false, cond, ◌&&◌, if◌then◌else◌, Option, Some, None, map, filter, option_and_then, refl}
-use Rattle.std.specs.List.{flat_map}
+use Rattle.std.specs.Prelude.{◌≡◌, List, [], ◌∷◌, ◌++◌, Bool, true, false, cond, ◌&&◌, Some, map, filter, refl}
 use Rattle.std.proofs.Common.{sym, ◌∙◌, ap, append_assoc, append-nil}
 use Rattle.std.proofs.lemmas.List.{map-append}
 use Rattle.std.proofs.lemmas.Option.{same_Some}
@@ -12,16 +11,11 @@ use Rattle.typed_values.specs.declared.value.TypedValue.{TypedValue}
 use Rattle.typed_values.specs.declared.record.EgressRecord.{EgressRecord}
 use Rattle.typed_values.specs.Sameness.{same_name, same_address}
 use Rattle.sf_outside.specs.Splits.{Lists}
-use Rattle.sf_outside.specs.declared.call.Call.{Call}
 use Rattle.request_reply.specs.declared.answer.EgressMessage.{EgressMessage}
-use Rattle.request_reply.specs.declared.judging.Judged.{Judged}
-use Rattle.request_reply.specs.declared.judging.Judged.TheVariants.{Accept, Flaw}
-use Rattle.request_reply.specs.Valid.{verdict}
 use Rattle.run_record.specs.declared.module.Module.{Module}
 use Rattle.run_record.specs.declared.entry.Entry.{Entry}
 use Rattle.run_record.specs.declared.entry.Step.{Step}
 use Rattle.run_record.specs.declared.entry.Step.TheVariants.{Take, Batch}
-use Rattle.run_record.specs.declared.entry.Reply.{Reply}
 use Rattle.run_record.specs.Machine.{State, first_state, emitted, egress_name, argument_of, served, step_after, replayed}
 use Rattle.run_record.specs.Backed.{calls_of, calls_of_step}
 use Rattle.run_record.specs.Egress.{egress_record, records_judged, records_of_step, egress_of}

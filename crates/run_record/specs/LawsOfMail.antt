@@ -1,7 +1,7 @@
 -- Each record is taken at most once, and letters of a pair are delivered at most once, in order.
-use Rattle.std.specs.Prelude.{◌≡◌, ℕ, ◌+◌, ◌≤◌, ◌<◌, ◌⊎◌, nat_eq, zero, suc, List, [], ◌∷◌, ◌++◌, Bool, true, false, cond, ◌&&◌, if◌then◌else◌, Option, Some, None, map, filter, take, drop, get_or, length, count_by, slice_get, option_and_then, refl}
+use Rattle.std.specs.Prelude.{◌≡◌, ℕ, ◌+◌, ◌≤◌, ◌<◌, ◌⊎◌, nat_eq, zero, suc, List, [], ◌∷◌, ◌++◌, Bool, true, false, cond, ◌&&◌, Option, Some, None, map, filter, take, drop, count_by, slice_get, option_and_then, refl}
 use Rattle.std.specs.Option.{option_map_or}
-use Rattle.std.proofs.Common.{sym, ◌∙◌, ap, subst, inl, inr, arith, append_assoc, append-nil, ne_eqb, eqb-true, zero-add, add-one, one-add}
+use Rattle.std.proofs.Common.{sym, ◌∙◌, ap, subst, inl, inr, arith, append_assoc, append-nil, ne_eqb, eqb-true, zero-add, one-add}
 use Rattle.std.proofs.lemmas.List.{map-append, take-append-drop, drop_more}
 use Rattle.std.proofs.lemmas.List.Elements.{filter-append}
 use Rattle.std.proofs.lemmas.List.Sums.{sum_by-append, sum_by-cons}
@@ -11,11 +11,9 @@ use Rattle.typed_values.specs.declared.value.TypedValue.{TypedValue}
 use Rattle.typed_values.specs.declared.letter.Sender.{Sender}
 use Rattle.typed_values.specs.declared.letter.Letter.{Letter}
 use Rattle.typed_values.specs.Sameness.{same_address, same_sender, same_sender-Decides, same_address-Decides}
-use Rattle.sf_outside.specs.Splits.{Lists, record_at}
+use Rattle.sf_outside.specs.Splits.{Lists}
 use Rattle.request_reply.specs.declared.request.ToFunction.{ToFunction}
 use Rattle.request_reply.specs.declared.request.BatchInvocation.{BatchInvocation}
-use Rattle.request_reply.specs.declared.judging.Judged.{Judged}
-use Rattle.request_reply.specs.Valid.{verdict}
 use Rattle.run_record.specs.declared.module.Module.{Module}
 use Rattle.run_record.specs.declared.module.Endpoint.{Endpoint}
 use Rattle.run_record.specs.declared.entry.Entry.{Entry}
@@ -23,8 +21,8 @@ use Rattle.run_record.specs.declared.entry.Step.{Step}
 use Rattle.run_record.specs.declared.entry.Step.TheVariants.{Take, Batch}
 use Rattle.run_record.specs.declared.entry.Reply.{Reply}
 use Rattle.run_record.specs.Routing.{letters_of, endpoint_of}
-use Rattle.run_record.specs.Machine.{State, first_state, Mail, posted, posted_all, invocation_of, picked_behind, picked, unpicked, batch_of, shipped, is_within, request_of, letters_from, argument_of, served, taken_after, step_after, replayed}
-use Rattle.run_record.specs.Deliveries.{over_steps, taken_by, numbers_taken, counting, arguments_of, letters_judged, letters_put, invocations_of, arguments_picked, delivered_by, put_in, delivered}
+use Rattle.run_record.specs.Machine.{State, Mail, posted, posted_all, invocation_of, picked_behind, picked, unpicked, batch_of, shipped, is_within, request_of, letters_from, served, step_after, replayed}
+use Rattle.run_record.specs.Deliveries.{taken_by, numbers_taken, counting, arguments_of, letters_judged, letters_put, invocations_of, arguments_picked, delivered_by, put_in, delivered}
 use Rattle.run_record.specs.Laws.{took, take_step-some, batch_step-some, some_from_and_then}
 
 -- ---- what is put

@@ -1,5 +1,5 @@
 -- The state that a machine keeps.
-use Rattle.std.specs.Prelude.{◌≡◌, ℕ, ◌<◌, ◌^◌, List, [], ◌∷◌, get_or}
+use Rattle.std.specs.Prelude.{ℕ, List, [], get_or}
 use Rattle.typed_values.specs.declared.name.TypeName.{TypeName}
 use Rattle.typed_values.specs.declared.address.Address.{Address}
 use Rattle.typed_values.specs.declared.value.TypedValue.{TypedValue}

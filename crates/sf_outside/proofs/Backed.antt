@@ -1,7 +1,6 @@
 -- What a turn tells was answered.
-use Rattle.std.proofs.Common.{◌≡◌, ℕ, ◌+◌, ◌<◌, List, [], ◌∷◌, ◌++◌, length, Option, Some, None, refl, arith, add-one}
-use Rattle.std.specs.Prelude.{slice_get, slice_index_or, Contains, option_to_list}
-use Rattle.sf_outside.specs.declared.call.Answered.{Answered}
+use Rattle.std.proofs.Common.{◌≡◌, ℕ, ◌+◌, List, [], ◌∷◌, ◌++◌, Option, Some, None, refl, arith, add-one}
+use Rattle.std.specs.Prelude.{Contains, option_to_list}
 use Rattle.sf_outside.specs.declared.call.Answered.TheVariants.{Answer, Lost}
 use Rattle.sf_outside.specs.declared.call.LinkEvent.{LinkEvent}
 use Rattle.sf_outside.specs.declared.call.LinkEvent.TheVariants.{Started, Polled}

@@ -1,10 +1,9 @@
 -- Starts and their places.
-use Rattle.std.proofs.Common.{◌≡◌, ℕ, zero, suc, ◌+◌, ◌<◌, List, [], ◌∷◌, ◌++◌, length, get_or, Option, Some, None, refl, sym, ◌∙◌, ap, subst, arith, rules, append_assoc, length-append, add-one, add-suc, suc-add, add-zero}
+use Rattle.std.proofs.Common.{◌≡◌, ℕ, zero, suc, ◌+◌, List, [], ◌∷◌, ◌++◌, length, Some, refl, sym, ◌∙◌, ap, arith, append_assoc, length-append, add-one, add-zero}
 use Rattle.std.specs.Prelude.{slice_get, option_and_then, Contains}
-use Rattle.std.proofs.lemmas.List.{append-nil}
 use Rattle.sf_outside.specs.declared.call.LinkEvent.{LinkEvent}
 use Rattle.sf_outside.specs.declared.call.LinkEvent.TheVariants.{Started, Polled}
-use Rattle.sf_outside.specs.Script.{starts_of, start_number, places_from}
+use Rattle.sf_outside.specs.Script.{start_number, places_from}
 
 pub places_start : (at : ℕ) (events : List LinkEvent) (call : _) (url request : List ℕ) → places_from at (events ++ Started call url request ∷ []) ≡ places_from at events ++ (at + length events) ∷ []
 places_start at [] call url request = rw add-zero refl

@@ -7,7 +7,7 @@ use Rattle.sf_outside.specs.declared.call.Answered.{Answered}
 use Rattle.sf_outside.specs.declared.call.Answered.TheVariants.{Answer, Lost}
 use Rattle.sf_outside.specs.declared.call.Outcome.{Outcome}
 use Rattle.sf_outside.specs.declared.call.LinkEvent.{LinkEvent}
-use Rattle.sf_outside.specs.declared.call.LinkEvent.TheVariants.{Started, Polled}
+use Rattle.sf_outside.specs.declared.call.LinkEvent.TheVariants.{Started}
 use Rattle.sf_outside.specs.declared.call.Exchange.{Exchange}
 use Rattle.sf_outside.specs.Told.{Rose}
 

@@ -1,5 +1,5 @@
 -- The lists of an ingress.
-use Rattle.std.specs.Prelude.{◌≡◌, ℕ, List, [], ◌∷◌, ◌++◌, Option, Some, None, slice_get, unwrap_or}
+use Rattle.std.specs.Prelude.{◌≡◌, ℕ, List, [], ◌++◌, Option, Some, None, slice_get, unwrap_or}
 use Rattle.sf_outside.specs.declared.ingress.IngressRecord.{IngressRecord}
 
 abbrev pub Lists : Type 0

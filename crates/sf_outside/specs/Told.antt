@@ -1,6 +1,6 @@
 -- What an object tells of itself, and when it may say that it failed.
 use Rattle.std.specs.Prelude.{◌≡◌, ℕ, ◌+◌, ◌-◌, ◌^◌, ◌≤◌, min, List, [], ◌++◌, refl, Option, Some, None, Result, Ok, Err}
-use Rattle.std.proofs.Common.{ap, sym, append_assoc}
+use Rattle.std.proofs.Common.{ap, append_assoc}
 use Rattle.std.proofs.lemmas.List.{append-nil}
 use Rattle.sf_outside.specs.declared.fault.Fault.{Fault}
 use Rattle.sf_outside.specs.declared.fault.Fault.TheVariants.{Failed, OutOfMemory}

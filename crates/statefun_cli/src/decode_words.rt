@@ -62,7 +62,7 @@ pub fn read_decode_words(alloc: Global, words: &[String]) -> Mem<DecodeAsk>
         .required(true)
         .action(ArgAction::Set)
         .value_parser(KINDS.as_slice())
-        .help("What is decoded: a request to a function, or an answer from one");
+        .help("What is decoded: a request to a function or an answer from one");
     let command = Command::new(alloc, "decode")
         .about("Reads a message from standard input and writes it as lines")
         .bin_name("statefun decode")?

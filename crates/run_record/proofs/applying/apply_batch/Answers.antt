@@ -1,7 +1,7 @@
-use Rattle.std.proofs.Common.{◌≡◌, ◌∙◌, sym, ap, Some, None, Option, arith}
+use Rattle.std.proofs.Common.{◌∙◌, sym, ap, Option, arith}
 use Rattle.std.specs.Prelude.{is_some, unwrap_or}
 use Rattle.request_reply.specs.Valid.{verdict}
-use Rattle.run_record.specs.Machine.{State, served, batch_step}
+use Rattle.run_record.specs.Machine.{State}
 use Rattle.run_record.specs.StateOf.{state_of}
 use Rattle.run_record.proofs.Serving.{not_late, not_asked, not_valid, is_served, letters_there}
 use Rattle.run_record.proofs.applying.apply_batch.Goals as goal

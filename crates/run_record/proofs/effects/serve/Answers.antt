@@ -1,4 +1,4 @@
-use Rattle.std.proofs.Common.{◌≡◌, ◌∙◌, sym, ap, subst, refl, ℕ, List, map, get_or}
+use Rattle.std.proofs.Common.{◌∙◌, sym, ap, subst, refl, List}
 use Rattle.typed_values.specs.declared.address.Address.{Address}
 use Rattle.typed_values.specs.declared.name.TypeName.{TypeName}
 use Rattle.typed_values.specs.declared.value.TypedValue.{TypedValue}
@@ -8,7 +8,7 @@ use Rattle.run_record.specs.declared.shelves.Placed.{Placed}
 use Rattle.run_record.specs.Keys.{name_order, address_order, sender_order}
 use Rattle.run_record.specs.Queues.{HasBehind, list_in}
 use Rattle.run_record.specs.Machine.{letters_from, seen_after, unpicked}
-use Rattle.run_record.specs.StateOf.{state_of, mail_of, egress_in, moment_in, placed_letter, placed_message}
+use Rattle.run_record.specs.StateOf.{state_of, mail_of, egress_in, moment_in}
 use Rattle.run_record.proofs.Kept.{mail_posted, egress_emitted, posted_before, seen_set, same_state, state_served}
 use Rattle.run_record.proofs.effects.serve.Goals as goal
 

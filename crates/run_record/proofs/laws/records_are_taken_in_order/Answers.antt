@@ -1,4 +1,4 @@
-use Rattle.std.proofs.Common.{arith, ap, ◌∙◌, ◌+◌, ◌≡◌, ℕ}
+use Rattle.std.proofs.Common.{arith, ap, ◌∙◌, ◌≡◌}
 use Rattle.run_record.specs.Machine.{first_state}
 use Rattle.run_record.specs.Deliveries.{counting}
 use Rattle.run_record.specs.LawsOfMail.{numbers_taken-are}

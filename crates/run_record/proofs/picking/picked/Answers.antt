@@ -1,11 +1,8 @@
-use Rattle.std.proofs.Common.{◌≡◌, ◌∙◌, sym, ap, ◌++◌, ◌∷◌, [], take, count_by, Some}
+use Rattle.std.proofs.Common.{◌∙◌, sym, ap, Some}
 use Rattle.std.specs.BTreeMap.{is_at}
 use Rattle.std.specs.Map.{lookup}
 use Rattle.std.specs.Prelude.{unwrap_or}
 use Rattle.typed_values.specs.declared.letter.Sender.{Sender}
-use Rattle.typed_values.specs.Sameness.{same_sender}
-use Rattle.request_reply.specs.declared.request.BatchInvocation.{BatchInvocation}
-use Rattle.run_record.specs.Machine.{invocation_of}
 use Rattle.run_record.specs.Keys.{sender_order}
 use Rattle.run_record.specs.Queues.{number_at}
 use Rattle.run_record.specs.StateOf.{mail_of}

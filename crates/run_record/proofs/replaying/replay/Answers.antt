@@ -1,4 +1,4 @@
-use Rattle.std.proofs.Common.{◌≡◌, ◌∙◌, sym, ap, subst, refl, List, Bool, true, false, take, get_or, length, ◌<◌}
+use Rattle.std.proofs.Common.{◌≡◌, ◌∙◌, subst, refl, List, Bool, take, get_or, length, ◌<◌}
 use Rattle.run_record.specs.declared.entry.Entry.{Entry}
 use Rattle.run_record.specs.StateOf.{state_of}
 use Rattle.run_record.specs.Replays.{StepsOver}

@@ -1,4 +1,4 @@
-use Rattle.std.proofs.Common.{◌≡◌, ◌∙◌, sym, ap, Some, None, cond, true, false}
+use Rattle.std.proofs.Common.{◌∙◌, sym, ap, Some, true, false}
 use Rattle.request_reply.specs.declared.request.ToFunction.TheVariants.{Invocation}
 use Rattle.run_record.specs.Machine.{picked}
 use Rattle.run_record.specs.StateOf.{state_of, mail_of}

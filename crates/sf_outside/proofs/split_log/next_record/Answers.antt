@@ -1,6 +1,6 @@
-use Rattle.std.proofs.Common.{◌≡◌, rules, sym, ◌∙◌}
+use Rattle.std.proofs.Common.{◌≡◌, rules}
 use Rattle.sf_outside.specs.declared.front.Front.TheVariants.{Whole}
-use Rattle.sf_outside.specs.Log.{known, TakesFirst, front_of}
+use Rattle.sf_outside.specs.Log.{known, front_of}
 use Rattle.sf_outside.proofs.Logs.{taken_whole}
 use Rattle.sf_outside.proofs.split_log.next_record.Goals as goal
 

@@ -1,7 +1,6 @@
 use Rattle.std.proofs.Common.{◌≡◌, ◌∙◌, sym, ap, [], ◌∷◌, ◌++◌, map, arith, append_assoc, append-nil, length}
 use Rattle.std.proofs.lemmas.List.{map_push, nil_from_length}
-use Rattle.run_record.specs.Queues.{list_in, place_of, HasBehind, values_at}
-use Rattle.run_record.specs.declared.shelves.Placed.{Placed}
+use Rattle.run_record.specs.Queues.{list_in, place_of, values_at}
 use Rattle.run_record.proofs.Behind.{more_behind}
 use Rattle.run_record.proofs.shelves.Shelves.push_all.Goals as goal
 

@@ -1,5 +1,5 @@
-use Rattle.std.proofs.Common.{◌≡◌, ◌∙◌, [], ◌∷◌, ◌++◌, take, length, ◌-◌, subst, append-nil}
-use Rattle.run_record.specs.Queues.{list_in, ChangesIn, HasBehind, place_of}
+use Rattle.std.proofs.Common.{◌≡◌, ◌∙◌, [], take, length, ◌-◌, subst, append-nil}
+use Rattle.run_record.specs.Queues.{list_in, ChangesIn, place_of}
 use Rattle.run_record.specs.declared.shelves.Place.{Place}
 use Rattle.run_record.proofs.Behind.{pushed, dropped}
 use Rattle.run_record.proofs.shelves.Shelves.push_placed.Goals as goal

@@ -1,4 +1,3 @@
-use Rattle.std.proofs.Common.{arith}
 use Rattle.run_record.specs.Queues.{list_in}
 use Rattle.run_record.proofs.Behind.{withdrawn_one, withdrawn_all}
 use Rattle.run_record.proofs.shelves.Shelves.withdraw.Goals as goal

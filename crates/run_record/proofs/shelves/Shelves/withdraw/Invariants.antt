@@ -1,4 +1,4 @@
-use Rattle.std.proofs.Common.{◌≡◌, ◌-◌, ◌++◌, List, map, length, take}
+use Rattle.std.proofs.Common.{◌≡◌, ◌-◌, List, map, length, take}
 use Rattle.run_record.specs.Queues.{list_in, HasBehind, place_of}
 use Rattle.run_record.specs.declared.shelves.Placed.{Placed}
 use Rattle.run_record.proofs.shelves.Shelves.withdraw.Given as goal
