@@ -1,6 +1,6 @@
 -- Each answer in the record of a run is one that an endpoint gave to its request.
-use Rattle.std.proofs.Common.{lit<, ◌≡◌, ℕ, zero, suc, ◌+◌, ◌<◌, ◌≤◌, ◌^◌, Bool, true, false, cond, leb, List, [], ◌∷◌, ◌++◌, length, map, Option, Some, None, refl, sym, ap, subst, ◌∙◌, arith, append_assoc, length-append}
-use Rattle.std.specs.Prelude.{Contains, slice_index_or, unwrap_or, IfSome}
+use Rattle.std.proofs.Common.{◌≡◌, ℕ, zero, suc, ◌+◌, ◌<◌, ◌≤◌, ◌^◌, Bool, true, false, cond, leb, List, [], ◌∷◌, ◌++◌, length, map, Option, Some, None, refl, sym, ap, subst, ◌∙◌, arith, append_assoc, length-append}
+use Rattle.std.specs.Prelude.{Contains, slice_index_or, unwrap_or}
 use Rattle.std.specs.Option.{option_to_list}
 use Rattle.std.proofs.lemmas.List.{append-nil}
 use Rattle.sf_outside.specs.declared.call.Call.{Call}
@@ -12,7 +12,6 @@ use Rattle.sf_outside.specs.declared.call.LinkEvent.{LinkEvent}
 use Rattle.sf_outside.specs.declared.call.LinkEvent.TheVariants.{Started, Polled}
 use Rattle.sf_outside.specs.declared.ingress.IngressRecord.{IngressRecord}
 use Rattle.sf_outside.specs.Splits.{Lists, split_of, record_at}
-use Rattle.sf_outside.specs.Answers.{IsExchanged}
 use Rattle.typed_values.specs.declared.name.TypeName.{TypeName}
 use Rattle.typed_values.specs.declared.letter.Letter.{Letter}
 use Rattle.request_reply.specs.declared.judging.Judged.{Judged}
@@ -20,9 +19,8 @@ use Rattle.request_reply.specs.declared.judging.Judged.TheVariants.{Accept, Flaw
 use Rattle.request_reply.specs.Spelling.{to_spelling}
 use Rattle.request_reply.specs.Valid.{verdict}
 use Rattle.run_record.specs.declared.module.Module.{Module}
-use Rattle.run_record.specs.declared.entry.Entry.{Entry}
-use Rattle.run_record.specs.Routing.{url_of, filled}
-use Rattle.run_record.specs.Machine.{State, first_state}
+use Rattle.run_record.specs.Routing.{url_of}
+use Rattle.run_record.specs.Machine.{first_state}
 use Rattle.run_record.specs.Backed.{AreBacked, IsBackedReply}
 use Rattle.run_record.specs.Laws.{AreBacked-push}
 use Rattle.statefun_cli.specs.Turns.{Heard, Work, Status, Going, Cut, Ended, Turned, Fate, Open, TooLate, Told, call_in, own_outcome, fate_by, fate_of, take_entry, work_read, request_for, start_of, batch_entry, judged_turn, fated_turn, asked_turn, turned, go_on, turns_from, turns_of, no_work, records_heard}
@@ -32,7 +30,7 @@ use Rattle.statefun_cli.specs.Making.{AreShort, LegsBelow}
 use Rattle.statefun_cli.specs.Running.{IsProper, AreProper}
 use Rattle.statefun_cli.proofs.PlainJob.{plain-url}
 use Rattle.statefun_cli.proofs.Runs.{turned-taken}
-use Rattle.statefun_cli.proofs.Replaying.{AllFor, Replays, asked_is, read_replays, judged_replays, started_replays, turn_replays, fated-events, read_there, AreShort-split}
+use Rattle.statefun_cli.proofs.Replaying.{AllFor, Replays, asked_is, read_replays, judged_replays, fated-events, read_there, AreShort-split}
 
 -- ---- the starts of a run have the numbers of its turns
 

@@ -1,9 +1,8 @@
 -- A run that could not begin, and the text of one that did.
 use Rattle.std.proofs.Common.{◌≡◌, ℕ, List, [], ◌++◌, Option, Some, refl, sym, ap, subst, ◌∙◌, arith}
-use Rattle.std.proofs.lemmas.List.{append-nil}
 use Rattle.sf_outside.specs.declared.call.LinkEvent.{LinkEvent}
 use Rattle.sf_outside.specs.declared.call.Exchange.{Exchange}
-use Rattle.sf_outside.specs.Told.{more, more-nil}
+use Rattle.sf_outside.specs.Told.{more-nil}
 use Rattle.sf_outside.specs.Splits.{Lists}
 use Rattle.run_record.specs.declared.module.Module.{Module}
 use Rattle.run_record.specs.declared.entry.Entry.{Entry}

@@ -1,5 +1,5 @@
 -- Polls that told nothing of a call so far, and one more.
-use Rattle.std.proofs.Common.{◌≡◌, ℕ, ◌+◌, ◌<◌, ◌≤◌, Bool, true, false, cond, eqb, ◌&&◌, List, [], ◌∷◌, ◌++◌, length, map, Option, Some, None, Result, Ok, Err, refl, sym, ap, subst, ◌∙◌, arith, length-append}
+use Rattle.std.proofs.Common.{◌≡◌, ℕ, ◌+◌, ◌<◌, ◌≤◌, Bool, true, false, cond, eqb, ◌&&◌, List, [], ◌∷◌, ◌++◌, length, map, Option, Some, None, Ok, Err, refl, sym, ap, subst, ◌∙◌, arith, length-append}
 use Rattle.std.specs.Cmp.{first_so, second_so}
 use Rattle.std.proofs.lemmas.Bool.{eqb-true}
 use Rattle.std.proofs.lemmas.List.{map-append}
@@ -7,7 +7,7 @@ use Rattle.std.proofs.lemmas.List.Elements.{Contains-append_left}
 use Rattle.sf_outside.specs.declared.call.Answered.TheVariants.{Answer, Lost}
 use Rattle.sf_outside.specs.declared.call.Exchange.{Exchange}
 use Rattle.sf_outside.specs.declared.fault.Fault.{Fault}
-use Rattle.sf_outside.specs.Answers.{IsExchanged, IsAnswerOf, IsAnswered, LostRose, LostRoseBy}
+use Rattle.sf_outside.specs.Answers.{IsAnswerOf, IsAnswered, LostRose, LostRoseBy}
 use Rattle.statefun_cli.specs.Polling.{IsWaited, IsOwnAnswer}
 use Rattle.sf_outside.specs.declared.call.Call.{Call}
 use Rattle.sf_outside.specs.declared.call.Answered.{Answered}

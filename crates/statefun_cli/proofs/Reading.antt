@@ -13,8 +13,8 @@ use Rattle.run_record.specs.declared.entry.Entry.{Entry}
 use Rattle.run_record.specs.Egress.{egress_of, egress_text, records_of_step}
 use Rattle.statefun_cli.specs.declared.end.PlainEnd.{PlainEnd}
 use Rattle.statefun_cli.specs.declared.end.PlainEnd.TheVariants.{Done, Usage, TurnsSpent, EndpointFailed, IngressFault, LinkFault, SinkFault, OutOfMemory}
-use Rattle.statefun_cli.specs.Turns.{Heard, Work, Status, Going, Cut, Ended, Turned, call_in, take_entry, work_read, status_at, asked_turn, turned}
-use Rattle.statefun_cli.specs.Progress.{IsFront, IsTextOf, IsTurnText, IsTurnEnd, IsEndOf, status_of, with_front}
+use Rattle.statefun_cli.specs.Turns.{Heard, Work, Going, Ended, Turned, take_entry, work_read, status_at, asked_turn, turned}
+use Rattle.statefun_cli.specs.Progress.{IsFront, IsTextOf, IsTurnText, IsTurnEnd, IsEndOf, status_of}
 use Rattle.statefun_cli.specs.Making.{AreShort, IsHeard, IsAsked, IsTurnMade}
 use Rattle.statefun_cli.proofs.Serving.{no_polls}
 

@@ -6,7 +6,7 @@ use Rattle.std.specs.Option.{option_to_list}
 use Rattle.std.proofs.lemmas.List.{append-nil}
 use Rattle.sf_outside.specs.declared.call.LinkEvent.{LinkEvent}
 use Rattle.sf_outside.specs.declared.call.Exchange.{Exchange}
-use Rattle.sf_outside.specs.Splits.{Lists, split_of}
+use Rattle.sf_outside.specs.Splits.{Lists}
 use Rattle.run_record.specs.declared.module.Module.{Module}
 use Rattle.run_record.specs.declared.entry.Entry.{Entry}
 use Rattle.run_record.specs.Machine.{State, first_state, step_after, replayed}
@@ -16,7 +16,7 @@ use Rattle.run_record.specs.LawsOfEgress.{egress_of-first}
 use Rattle.statefun_cli.specs.declared.end.PlainEnd.{PlainEnd}
 use Rattle.statefun_cli.specs.declared.end.PlainEnd.TheVariants.{Done, Usage, TurnsSpent, EndpointFailed, IngressFault, LinkFault, SinkFault, OutOfMemory}
 use Rattle.statefun_cli.specs.Words.{plain_module, IsPlain}
-use Rattle.statefun_cli.specs.Turns.{Turned, turns_of, records_heard}
+use Rattle.statefun_cli.specs.Turns.{Turned, turns_of}
 use Rattle.statefun_cli.specs.Progress.{IsFront}
 use Rattle.statefun_cli.specs.Running.{AreProper, IsRun, IsRunEnd}
 use Rattle.statefun_cli.specs.Plain.{IsReplayed, IsBackedRun, IfFresh}

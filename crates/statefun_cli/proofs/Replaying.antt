@@ -1,11 +1,9 @@
 -- The record of a run replays: each turn's steps are steps of the machine.
-use Rattle.std.proofs.Common.{lit<, ◌≡◌, ℕ, ◌+◌, ◌<◌, ◌≤◌, ◌^◌, Bool, true, false, cond, leb, ◌&&◌, List, [], ◌∷◌, ◌++◌, length, map, Option, Some, None, Result, Ok, Err, refl, sym, ap, subst, ◌∙◌, arith, append_assoc, length-append}
-use Rattle.std.specs.Prelude.{slice_get, IfSome}
+use Rattle.std.proofs.Common.{lit<, ◌≡◌, ℕ, ◌+◌, ◌<◌, ◌^◌, Bool, true, false, cond, leb, ◌&&◌, List, [], ◌∷◌, ◌++◌, length, map, Option, Some, None, Result, Ok, Err, refl, sym, ap, subst, ◌∙◌, arith, append_assoc, length-append}
+use Rattle.std.specs.Prelude.{slice_get}
 use Rattle.std.specs.Option.{option_to_list}
 use Rattle.std.specs.Cmp.{first_so, second_so}
-use Rattle.std.specs.Str.{bytes_eq}
 use Rattle.std.proofs.lemmas.Bool.{le-leb}
-use Rattle.std.proofs.lemmas.List.{append-nil}
 use Rattle.sf_outside.specs.declared.call.Answered.TheVariants.{Answer, Lost as NoAnswer}
 use Rattle.sf_outside.specs.declared.call.LinkEvent.{LinkEvent}
 use Rattle.sf_outside.specs.declared.call.LinkEvent.TheVariants.{Polled}
@@ -24,16 +22,15 @@ use Rattle.request_reply.specs.declared.answer.InvocationResponse.{InvocationRes
 use Rattle.request_reply.specs.declared.answer.OutgoingInvocation.{OutgoingInvocation}
 use Rattle.request_reply.specs.declared.judging.Judged.{Judged}
 use Rattle.request_reply.specs.declared.judging.Judged.TheVariants.{Accept, Flaw}
-use Rattle.request_reply.specs.Spelling.{to_spelling, from_spelling, from_value}
+use Rattle.request_reply.specs.Spelling.{to_spelling, from_value}
 use Rattle.request_reply.specs.Valid.{verdict, judged_answer, judged_egresses, has_egresses_alone, first_unknown, is_empty, flaw_not_built, wire_flaw, too_long}
 use Rattle.run_record.specs.declared.module.Module.{Module}
 use Rattle.run_record.specs.declared.entry.Entry.{Entry}
-use Rattle.run_record.specs.declared.entry.Step.TheVariants.{Take, Batch}
 use Rattle.run_record.specs.declared.entry.Reply.{Reply}
 use Rattle.run_record.specs.Routing.{letters_of, endpoint_of}
-use Rattle.run_record.specs.Machine.{State, first_state, posted_all, unpicked, request_of, letters_from, seen_after, served, take_step, batch_step, replayed}
+use Rattle.run_record.specs.Machine.{State, first_state, posted_all, unpicked, request_of, letters_from, served, take_step, batch_step, replayed}
 use Rattle.run_record.specs.Laws.{took, IsTaken, IsServed, take_step-is, batch_step-is, replayed-append, replayed_push_on, some_from_and_then}
-use Rattle.statefun_cli.specs.Turns.{Heard, Work, Status, Going, Cut, Ended, Turned, Fate, Open, TooLate, Told, call_in, own_outcome, fate_of, take_entry, work_read, request_for, start_of, batch_entry, judged_turn, fated_turn, asked_turn, turned, go_on, turns_from, turns_of, no_work, records_heard}
+use Rattle.statefun_cli.specs.Turns.{Heard, Work, Status, Going, Cut, Ended, Turned, Fate, Open, TooLate, Told, call_in, fate_of, take_entry, work_read, request_for, start_of, batch_entry, judged_turn, fated_turn, asked_turn, turned, go_on, turns_from, turns_of, no_work, records_heard}
 use Rattle.statefun_cli.specs.Words.{plain_module}
 use Rattle.statefun_cli.specs.Making.{AreShort}
 use Rattle.statefun_cli.proofs.PlainJob.{plain-endpoint, plain-letters}

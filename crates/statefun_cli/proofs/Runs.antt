@@ -1,5 +1,5 @@
 -- Turns one after the other: one more turn, and what stays as the outside goes on.
-use Rattle.std.proofs.Common.{◌≡◌, ℕ, suc, ◌+◌, ◌<◌, ◌≤◌, Bool, true, false, cond, eqb, List, [], ◌∷◌, ◌++◌, length, map, Option, Some, None, refl, sym, ap, subst, ◌∙◌, arith, append_assoc, length-append}
+use Rattle.std.proofs.Common.{◌≡◌, ℕ, ◌+◌, ◌<◌, ◌≤◌, Bool, true, false, cond, List, [], ◌∷◌, ◌++◌, length, map, Option, Some, None, refl, sym, ap, subst, ◌∙◌, arith, append_assoc, length-append}
 use Rattle.std.specs.Prelude.{slice_get, IfSome, Contains}
 use Rattle.std.specs.Option.{option_to_list}
 use Rattle.std.proofs.lemmas.List.{append-nil}
@@ -12,8 +12,8 @@ use Rattle.sf_outside.specs.declared.call.LinkEvent.TheVariants.{Polled}
 use Rattle.sf_outside.specs.declared.call.Exchange.{Exchange}
 use Rattle.sf_outside.specs.declared.ingress.IngressRecord.{IngressRecord}
 use Rattle.sf_outside.specs.Told.{more, more-nil, more-more}
-use Rattle.sf_outside.specs.Answers.{Extends, IsExchanged}
-use Rattle.sf_outside.specs.Splits.{Lists, split_of, GrowTo, Grows, Reads}
+use Rattle.sf_outside.specs.Answers.{Extends}
+use Rattle.sf_outside.specs.Splits.{Lists, split_of, Grows, Reads}
 use Rattle.typed_values.specs.declared.address.Address.{Address}
 use Rattle.typed_values.specs.declared.letter.Sender.{Sender}
 use Rattle.typed_values.specs.declared.letter.Letter.{Letter}
@@ -24,7 +24,7 @@ use Rattle.run_record.specs.declared.module.Module.{Module}
 use Rattle.run_record.specs.declared.entry.Entry.{Entry}
 use Rattle.statefun_cli.specs.declared.end.PlainEnd.{PlainEnd}
 use Rattle.statefun_cli.specs.declared.end.PlainEnd.TheVariants.{Done, Usage, TurnsSpent, EndpointFailed, IngressFault, LinkFault, SinkFault, OutOfMemory}
-use Rattle.statefun_cli.specs.Turns.{Heard, Work, Status, Going, Cut, Ended, Turned, Fate, Open, TooLate, Told, call_in, own_outcome, fate_of, work_read, status_at, judged_turn, fated_turn, asked_turn, start_of, turned, behind, go_on, turns_from, turns_of, no_work, records_heard}
+use Rattle.statefun_cli.specs.Turns.{Heard, Work, Status, Going, Cut, Ended, Turned, Fate, Open, TooLate, Told, call_in, fate_of, work_read, status_at, judged_turn, fated_turn, asked_turn, start_of, turned, behind, go_on, turns_from, turns_of, no_work, records_heard}
 use Rattle.statefun_cli.specs.Polling.{IsOwnAnswer}
 use Rattle.sf_outside.specs.declared.fault.Fault.{Fault}
 use Rattle.sf_outside.specs.declared.fault.Fault.TheVariants as faults

@@ -1,10 +1,8 @@
 -- Where each call is answered by a valid answer, no call fails the run.
-use Rattle.std.proofs.Common.{◌≡◌, ℕ, ◌+◌, ◌≤◌, Bool, true, false, cond, eqb, List, [], ◌∷◌, ◌++◌, length, map, Option, Some, None, refl, sym, ap, subst, ◌∙◌}
+use Rattle.std.proofs.Common.{◌≡◌, ℕ, ◌+◌, Bool, true, false, cond, eqb, List, [], ◌∷◌, ◌++◌, length, map, Option, Some, None, refl, sym, ap, subst, ◌∙◌}
 use Rattle.std.specs.Option.{option_to_list}
 use Rattle.std.specs.Prelude.{IfOk, Result, Ok, Err}
 use Rattle.statefun_cli.specs.declared.words.Plan.{Plan}
-use Rattle.sf_outside.specs.declared.call.Answered.{Answered}
-use Rattle.sf_outside.specs.declared.call.Answered.TheVariants.{Answer, Lost as NoAnswer}
 use Rattle.sf_outside.specs.declared.call.LinkEvent.{LinkEvent}
 use Rattle.sf_outside.specs.declared.call.LinkEvent.TheVariants.{Polled}
 use Rattle.sf_outside.specs.declared.ingress.IngressRecord.{IngressRecord}
@@ -14,16 +12,14 @@ use Rattle.sf_outside.specs.Told.{Rose, more, more-nil}
 use Rattle.typed_values.specs.declared.address.Address.{Address}
 use Rattle.typed_values.specs.declared.letter.Letter.{Letter}
 use Rattle.request_reply.specs.declared.flaw.Reason.{Reason}
-use Rattle.request_reply.specs.declared.judging.Judged.{Judged}
-use Rattle.request_reply.specs.declared.judging.Judged.TheVariants.{Accept, Flaw}
-use Rattle.request_reply.specs.Valid.{verdict}
+use Rattle.request_reply.specs.declared.judging.Judged.TheVariants.{Accept}
 use Rattle.run_record.specs.declared.module.Module.{Module}
 use Rattle.run_record.specs.declared.entry.Entry.{Entry}
 use Rattle.statefun_cli.specs.declared.end.PlainEnd.{PlainEnd}
 use Rattle.statefun_cli.specs.declared.end.PlainEnd.TheVariants.{Done, Usage, TurnsSpent, EndpointFailed, IngressFault, LinkFault, SinkFault, OutOfMemory}
-use Rattle.statefun_cli.specs.Turns.{Heard, Work, Status, Going, Cut, Ended, Turned, Fate, call_in, fate_by, fate_of, work_read, start_of, status_at, judged_turn, fated_turn, asked_turn, turned, go_on, turns_from, turns_of, no_work}
+use Rattle.statefun_cli.specs.Turns.{Heard, Work, Status, Going, Cut, Ended, Turned, call_in, fate_by, fate_of, work_read, start_of, status_at, judged_turn, fated_turn, asked_turn, turned, go_on, turns_from, turns_of, no_work}
 use Rattle.statefun_cli.specs.Plain.{Counts, IsTold, IsSinkCauseOf, IsServed, AreServed, IsComplete, IsFaultCause, IsPlainRun, IsCompleteRun}
-use Rattle.statefun_cli.specs.Running.{IsRun, IsRunEnd, IsIngressCauseOf, IsLinkCauseOf}
+use Rattle.statefun_cli.specs.Running.{IsRunEnd, IsIngressCauseOf, IsLinkCauseOf}
 
 abbrev Fails : Status → Type 0
 Fails s = (address : Address) × (reasons : List Reason) × (s ≡ Ended (EndpointFailed address reasons))

@@ -1,13 +1,13 @@
 -- A letter is asked for: each way in which that goes.
-use Rattle.std.proofs.Common.{◌≡◌, ℕ, ◌≤◌, ◌<◌, ◌^◌, Bool, true, false, leb, cond, List, [], ◌∷◌, ◌++◌, length, map, Option, Some, None, Result, Ok, Err, refl, sym, ap, subst, ◌∙◌, arith}
-use Rattle.std.specs.Prelude.{unwrap_or, IfSome, IfOk}
+use Rattle.std.proofs.Common.{◌≡◌, ℕ, ◌<◌, ◌^◌, Bool, true, false, leb, cond, List, [], ◌∷◌, ◌++◌, length, map, Option, Some, None, Ok, Err, refl, sym, ap, subst, ◌∙◌, arith}
+use Rattle.std.specs.Prelude.{IfSome}
 use Rattle.std.proofs.lemmas.Bool.{le-leb}
 use Rattle.sf_outside.specs.declared.call.Call.{Call}
 use Rattle.sf_outside.specs.declared.call.Answered.{Answered}
 use Rattle.sf_outside.specs.declared.call.Answered.TheVariants.{Answer, Lost}
 use Rattle.sf_outside.specs.declared.call.Outcome.{Outcome}
 use Rattle.sf_outside.specs.declared.call.LinkEvent.{LinkEvent}
-use Rattle.sf_outside.specs.declared.call.LinkEvent.TheVariants.{Started, Polled}
+use Rattle.sf_outside.specs.declared.call.LinkEvent.TheVariants.{Polled}
 use Rattle.sf_outside.specs.declared.call.Exchange.{Exchange}
 use Rattle.sf_outside.specs.declared.fault.Fault.{Fault}
 use Rattle.sf_outside.specs.declared.fault.Fault.TheVariants as faults
@@ -20,12 +20,11 @@ use Rattle.request_reply.specs.Spelling.{to_spelling}
 use Rattle.request_reply.specs.Valid.{verdict}
 use Rattle.run_record.specs.declared.module.Module.{Module}
 use Rattle.run_record.specs.declared.entry.Entry.{Entry}
-use Rattle.run_record.specs.Routing.{url_of}
 use Rattle.statefun_cli.specs.declared.end.PlainEnd.{PlainEnd}
 use Rattle.statefun_cli.specs.declared.end.PlainEnd.TheVariants.{Done, Usage, TurnsSpent, EndpointFailed, IngressFault, LinkFault, SinkFault, OutOfMemory}
 use Rattle.statefun_cli.specs.Turns.{Heard, Work, Turned, Fate, Open, TooLate, Told, call_in, own_outcome, fate_by, fate_of, AreItsPolls, start_of, request_for, judged_turn, fated_turn, asked_turn}
 use Rattle.statefun_cli.specs.Polling.{IsWaited, IsOwnAnswer, IsFateOf}
-use Rattle.statefun_cli.specs.Progress.{IsFront, IsTurnEnd, IsEndOf, IsCalm, with_front, fate_told}
+use Rattle.statefun_cli.specs.Progress.{IsFront, IsTurnEnd, IsCalm, fate_told}
 use Rattle.statefun_cli.specs.Making.{AreShort, IsHeard, IsAsked, IsTurnsOwn, link_end}
 use Rattle.statefun_cli.proofs.Settling.{fated_front}
 

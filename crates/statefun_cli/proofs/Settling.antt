@@ -1,5 +1,5 @@
 -- What a call's outcome makes of a turn.
-use Rattle.std.proofs.Common.{◌≡◌, ℕ, List, [], ◌∷◌, ◌++◌, map, Option, Some, None, refl, sym, ap, subst, ◌∙◌}
+use Rattle.std.proofs.Common.{◌≡◌, ℕ, List, [], ◌∷◌, ◌++◌, map, Option, Some, None, refl, sym, ap, ◌∙◌}
 use Rattle.std.specs.List.{flat_map}
 use Rattle.std.proofs.lemmas.List.{append-nil}
 use Rattle.std.proofs.lemmas.Grind.{flat_map-append}
@@ -20,7 +20,7 @@ use Rattle.run_record.specs.Egress.{egress_of, egress_text, egress_line, egress_
 use Rattle.statefun_cli.specs.declared.end.PlainEnd.{PlainEnd}
 use Rattle.statefun_cli.specs.declared.end.PlainEnd.TheVariants.{Done, Usage, TurnsSpent, EndpointFailed, IngressFault, LinkFault, SinkFault, OutOfMemory}
 use Rattle.statefun_cli.specs.Turns.{Work, Fate, Open, TooLate, Told, fated_turn, judged_turn, batch_entry}
-use Rattle.statefun_cli.specs.Progress.{IsFront, IsTextOf, IsTurnText, UnlessMemory, fate_told}
+use Rattle.statefun_cli.specs.Progress.{IsFront, IsTextOf, UnlessMemory, fate_told}
 
 nothing_more : (entries : List Entry) → IsFront entries entries
 nothing_more entries = ([], sym (append-nil entries))

@@ -1,6 +1,6 @@
 -- The state of the machine beside the work of a run: the letters that wait are the mail.
-use Rattle.std.proofs.Common.{◌≡◌, ℕ, ◌+◌, ◌≤◌, Bool, true, false, cond, ◌&&◌, List, [], ◌∷◌, ◌++◌, drop, length, Option, Some, None, refl, sym, ap, subst, ◌∙◌, arith, append_assoc, zero-add}
-use Rattle.std.specs.Prelude.{count_by, slice_get, if◌then◌else◌}
+use Rattle.std.proofs.Common.{◌≡◌, ℕ, Bool, true, false, cond, ◌&&◌, List, [], ◌∷◌, ◌++◌, drop, Some, refl, sym, ap, ◌∙◌, append_assoc, zero-add}
+use Rattle.std.specs.Prelude.{count_by, if◌then◌else◌}
 use Rattle.std.specs.Bool.{Decides}
 use Rattle.std.proofs.lemmas.List.{append-nil}
 use Rattle.std.proofs.lemmas.Bool.Decides.{same_from_decides}
@@ -9,8 +9,7 @@ use Rattle.typed_values.specs.declared.value.TypedValue.{TypedValue}
 use Rattle.typed_values.specs.declared.letter.Sender.{Sender}
 use Rattle.typed_values.specs.declared.letter.Letter.{Letter}
 use Rattle.typed_values.specs.Sameness.{same_sender, same_address, same_sender-Decides, same_address-Decides}
-use Rattle.run_record.specs.Machine.{Mail, posted, posted_all, unpicked, picked, picked_behind, invocation_of}
-use Rattle.request_reply.specs.declared.request.BatchInvocation.{BatchInvocation}
+use Rattle.run_record.specs.Machine.{Mail, posted, posted_all, unpicked, picked, invocation_of}
 
 -- the arguments of those letters that are from a sender to an address, in order
 abbrev pub of_pair : Letter → Sender → Address → Bool

@@ -1,5 +1,5 @@
 -- How a turn is made: what was heard in it, and what came of that.
-use Rattle.std.specs.Prelude.{◌≡◌, ◌≤◌, ◌<◌, ◌^◌, ℕ, List, [], ◌∷◌, length, Option, Some, None}
+use Rattle.std.specs.Prelude.{◌≡◌, ◌≤◌, ◌<◌, ◌^◌, ℕ, List, [], ◌∷◌, length, Option, Some}
 use Rattle.sf_outside.specs.declared.call.Answered.{Answered}
 use Rattle.sf_outside.specs.declared.call.LinkEvent.{LinkEvent}
 use Rattle.sf_outside.specs.declared.call.LinkEvent.TheVariants.{Started, Polled}

@@ -21,7 +21,7 @@ use Rattle.request_reply.specs.Valid.{verdict}
 use Rattle.statefun_cli.specs.Turns.{Heard, call_in, own_outcome, turns_of}
 use Rattle.run_record.specs.Egress.{egress_of, egress_text}
 use Rattle.statefun_cli.specs.declared.end.PlainEnd.{PlainEnd}
-use Rattle.statefun_cli.specs.declared.end.PlainEnd.TheVariants.{Done, Usage, TurnsSpent, EndpointFailed, IngressFault, LinkFault, SinkFault, OutOfMemory}
+use Rattle.statefun_cli.specs.declared.end.PlainEnd.TheVariants.{Done, Usage, TurnsSpent, IngressFault, LinkFault, SinkFault, OutOfMemory}
 use Rattle.statefun_cli.specs.Ends.{end_line}
 use Rattle.statefun_cli.specs.Progress.{ends_lost}
 use Rattle.statefun_cli.specs.Running.{IsRun, IsIngressCauseOf, IsLinkCauseOf}

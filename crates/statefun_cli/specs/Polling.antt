@@ -1,5 +1,5 @@
 -- What waiting for a call's outcome answers.
-use Rattle.std.specs.Prelude.{◌≡◌, ℕ, ◌≤◌, List, length, map, Option, Some, None, Result, Ok, Err, IfSome}
+use Rattle.std.specs.Prelude.{◌≡◌, ℕ, List, length, map, Option, Some, None, Result, Ok, Err}
 use Rattle.sf_outside.specs.declared.call.Call.{Call}
 use Rattle.sf_outside.specs.declared.call.Answered.{Answered}
 use Rattle.sf_outside.specs.declared.call.Answered.TheVariants.{Answer, Lost}

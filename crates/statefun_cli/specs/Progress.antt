@@ -1,10 +1,10 @@
 -- The run's own state, and what a turn leaves.
-use Rattle.std.specs.Prelude.{◌≡◌, ◌≤◌, ℕ, List, [], ◌∷◌, ◌++◌, Bool, true, false, Option, Some, None}
+use Rattle.std.specs.Prelude.{◌≡◌, ℕ, List, ◌∷◌, ◌++◌, Bool, true, false, Option, Some, None}
 use Rattle.sf_outside.specs.declared.call.Answered.{Answered}
-use Rattle.sf_outside.specs.declared.call.Answered.TheVariants.{Answer, Lost as NoAnswer}
+use Rattle.sf_outside.specs.declared.call.Answered.TheVariants.{Lost as NoAnswer}
 use Rattle.typed_values.specs.declared.letter.Letter.{Letter}
 use Rattle.request_reply.specs.declared.flaw.Reason.{Reason}
-use Rattle.request_reply.specs.declared.flaw.Reason.TheVariants.{Lost, Late, Refused}
+use Rattle.request_reply.specs.declared.flaw.Reason.TheVariants.{Lost}
 use Rattle.run_record.specs.declared.module.Module.{Module}
 use Rattle.run_record.specs.declared.entry.Entry.{Entry}
 use Rattle.run_record.specs.Egress.{egress_of, egress_text}

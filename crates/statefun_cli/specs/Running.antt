@@ -1,5 +1,5 @@
 -- What a run comes to.
-use Rattle.std.specs.Prelude.{◌≡◌, ◌≤◌, ◌+◌, ℕ, List, [], ◌∷◌, ◌++◌, length, Bool, true, false, Option, Some, None, IfSome}
+use Rattle.std.specs.Prelude.{◌≡◌, ◌≤◌, ◌+◌, ℕ, List, [], ◌∷◌, ◌++◌, length, Bool, true, false, Option, Some, IfSome}
 use Rattle.std.specs.Option.{option_to_list}
 use Rattle.sf_outside.specs.declared.call.Answered.{Answered}
 use Rattle.sf_outside.specs.declared.call.LinkEvent.{LinkEvent}
@@ -12,7 +12,7 @@ use Rattle.run_record.specs.declared.module.Module.{Module}
 use Rattle.run_record.specs.declared.entry.Entry.{Entry}
 use Rattle.statefun_cli.specs.declared.end.PlainEnd.{PlainEnd}
 use Rattle.statefun_cli.specs.declared.end.PlainEnd.TheVariants.{Done, Usage, TurnsSpent, EndpointFailed, IngressFault, LinkFault, SinkFault, OutOfMemory}
-use Rattle.statefun_cli.specs.Turns.{Heard, Work, Turned, Status, Going, call_in, own_outcome, AreItsPolls, turns_of, records_heard}
+use Rattle.statefun_cli.specs.Turns.{Heard, Turned, Going, call_in, own_outcome, AreItsPolls, turns_of, records_heard}
 use Rattle.statefun_cli.specs.Polling.{IsOwnAnswer}
 use Rattle.statefun_cli.specs.Making.{AreShort}
 use Rattle.statefun_cli.specs.Progress.{IsFront, IsEndOf}

@@ -1,4 +1,4 @@
-use Rattle.std.proofs.Common.{refl, sym, ◌∙◌, ap, subst, arith, rules, Option}
+use Rattle.std.proofs.Common.{refl, ◌∙◌, ap, subst, arith, Option}
 use Rattle.sf_outside.specs.Answers.{Extends-none, Extends-then}
 use Rattle.statefun_cli.specs.declared.end.PlainEnd.{PlainEnd}
 use Rattle.statefun_cli.specs.declared.turn.TheConstants.{PATIENCE}

@@ -1,6 +1,5 @@
 use Rattle.std.proofs.Common.{◌≡◌, ◌≤◌}
 use Rattle.sf_outside.specs.Answers.{Extends}
-use Rattle.run_record.specs.Routing.{splits_in}
 use Rattle.statefun_cli.specs.Progress.{work_of, IsTextOf}
 use Rattle.statefun_cli.specs.declared.turn.TheConstants.{PATIENCE}
 use Rattle.statefun_cli.proofs.Runs.{RunsSo}

@@ -1,7 +1,7 @@
 use Rattle.std.proofs.Common.{sym, ◌∙◌, arith}
 use Rattle.sf_outside.specs.Answers.{Extends-then}
 use Rattle.std.proofs.lemmas.Result.{err_from_is_err_and}
-use Rattle.statefun_cli.proofs.Polls.{HeardNothing-none, HeardNothing-more, waited_fault, waited_told, waited_late, own_answer, losses_later}
+use Rattle.statefun_cli.proofs.Polls.{HeardNothing-more, waited_fault, waited_told, waited_late, own_answer, losses_later}
 use Rattle.statefun_cli.proofs.polling.outcome_of.Goals as goal
 
 pub loop-preserved : goal.loop-preserved

@@ -1,7 +1,6 @@
-use Rattle.std.proofs.Common.{List, Result, Ok, Err}
-use Rattle.std.specs.Prelude.{IfOk, map}
+use Rattle.std.proofs.Common.{Result, Ok, Err}
+use Rattle.std.specs.Prelude.{IfOk}
 use Rattle.statefun_cli.specs.declared.words.Plan.{Plan}
-use Rattle.std.proofs.lemmas.Result.{MatchResult-weaker}
 use Rattle.statefun_cli.proofs.Beginning.{not_begun}
 use Rattle.statefun_cli.specs.Plain.{counts_of}
 use Rattle.statefun_cli.proofs.Served.{none_complete_of}

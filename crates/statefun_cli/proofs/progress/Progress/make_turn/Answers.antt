@@ -1,6 +1,6 @@
-use Rattle.std.proofs.Common.{List, ◌∷◌, ◌++◌, refl, sym, ◌∙◌, ap}
+use Rattle.std.proofs.Common.{List, refl, sym, ◌∙◌, ap}
 use Rattle.typed_values.specs.declared.letter.Letter.{Letter}
-use Rattle.statefun_cli.specs.Turns.{Work, work_read}
+use Rattle.statefun_cli.specs.Turns.{Work}
 use Rattle.statefun_cli.specs.Progress.{with_front, work_of}
 use Rattle.statefun_cli.proofs.Reading.{nothing_waits, text_idle, text_taken, turn_untaken, turn_idle, turn_asked}
 use Rattle.statefun_cli.proofs.progress.Progress.make_turn.Goals as goal

@@ -1,4 +1,4 @@
-use Rattle.std.proofs.Common.{ℕ, ◌<◌, ◌^◌, ◌≡◌, List, length, [], refl, sym, ◌∙◌, ap, subst, rules}
+use Rattle.std.proofs.Common.{ℕ, ◌<◌, ◌^◌, ◌≡◌, List, length, [], refl, sym, subst, rules}
 use Rattle.std.proofs.lemmas.List.{append-nil}
 use Rattle.sf_outside.specs.declared.fault.Fault.TheVariants as faults
 use Rattle.typed_values.specs.declared.address.Address.{Address}
