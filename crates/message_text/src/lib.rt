@@ -10,6 +10,3 @@ pub use answer_text::put_answer_lines;
 pub use fault_text::put_fault_line;
 pub use parts::put_decimal;
 pub use request_text::put_request_lines;
-
-#[cfg(test)]
-mod tests;

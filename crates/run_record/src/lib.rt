@@ -32,6 +32,3 @@ pub use merging::merge;
 pub use module::{Endpoint, IngressSpec, Module, TypePattern};
 pub use replaying::{ReplayFault, Replayed, replay};
 pub use routes::Routes;
-
-#[cfg(test)]
-mod tests;

@@ -1,0 +1,103 @@
+//! Entries as rows write them.
+use crate::job::function;
+use proto_wire::{Bytes, List, Mem, Text};
+use row_text::{Failure, bytes_of, number_of, text_of};
+use run_record::{Entry, Reply, Step};
+use sf_outside::{Call, IngressRecord};
+use std::alloc::Global;
+use typed_values::Sender;
+
+/// The entries of a field: `LEG.STAMP.NODE=STEP`, with blanks between them.
+pub(crate) fn entries_of(alloc: Global, field: &str) -> Result<List<Entry>, Failure> {
+    let mut entries = List::new(alloc);
+    for word in field.split_whitespace() {
+        entries.push(entry_of(alloc, word)?)?;
+    }
+    Ok(entries)
+}
+
+fn entry_of(alloc: Global, word: &str) -> Result<Entry, Failure> {
+    let (key, step) = word.split_once('=').ok_or(Failure::Row)?;
+    let mut numbers = key.split('.');
+    Ok(Entry {
+        leg: number_of(numbers.next().unwrap_or(""))?,
+        stamp: number_of(numbers.next().unwrap_or(""))?,
+        node: small(numbers.next().unwrap_or(""))?,
+        step: step_of(alloc, step)?,
+    })
+}
+
+/// The step of a word: `take:SPLIT`, or `serve:ID:MOMENT:SENDERS:ANSWER`, a batch for `n/f` of ID.
+pub(crate) fn step_of(alloc: Global, word: &str) -> Result<Step, Failure> {
+    let (kind, fields) = word.split_once(':').ok_or(Failure::Row)?;
+    match kind {
+        "take" => Ok(Step::Take(small(fields)?)),
+        "serve" => Ok(Step::Batch(reply_of(alloc, fields)?)),
+        _ => Err(Failure::Row),
+    }
+}
+
+fn reply_of(alloc: Global, fields: &str) -> Result<Reply, Failure> {
+    let mut parts = fields.split(':');
+    let id = text_of(alloc, parts.next().unwrap_or(""))?;
+    let moment = number_of(parts.next().unwrap_or(""))?;
+    let picks = senders_of(alloc, parts.next().unwrap_or(""))?;
+    let answer = bytes_of(alloc, parts.next().unwrap_or(""))?;
+    made(alloc, id, moment, picks, answer)
+}
+
+fn made(
+    alloc: Global,
+    id: Text,
+    moment: u64,
+    picks: List<Sender>,
+    answer: Bytes,
+) -> Result<Reply, Failure> {
+    Ok(Reply {
+        call: Call {
+            leg: 1,
+            partition: 0,
+            turn: 0,
+        },
+        address: function(alloc, id)?,
+        moment,
+        picks,
+        answer,
+    })
+}
+
+/// The senders of a field, with `,` between them.
+fn senders_of(alloc: Global, field: &str) -> Result<List<Sender>, Failure> {
+    let mut senders = List::new(alloc);
+    if field.is_empty() {
+        return Ok(senders);
+    }
+    for word in field.split(',') {
+        senders.push(sender_of(alloc, word)?)?;
+    }
+    Ok(senders)
+}
+
+/// The sender of a word: the number of a split, or `@ID` for `n/f` of ID.
+pub(crate) fn sender_of(alloc: Global, word: &str) -> Result<Sender, Failure> {
+    match word.strip_prefix('@') {
+        Some(id) => Ok(Sender::Function(function(alloc, text_of(alloc, id)?)?)),
+        None => Ok(Sender::Split(small(word)?)),
+    }
+}
+
+/// A number below 2^32.
+pub(crate) fn small(word: &str) -> Result<u32, Failure> {
+    match u32::try_from(number_of(word)?) {
+        Ok(number) => Ok(number),
+        Err(_) => Err(Failure::Row),
+    }
+}
+
+/// A record whose value is the bytes of its key.
+pub(crate) fn record(alloc: Global, key: &str) -> Mem<IngressRecord> {
+    Ok(IngressRecord {
+        key: Text::copy_of(alloc, key)?,
+        value: Bytes::copy_of(alloc, key.as_bytes())?,
+    })
+}
