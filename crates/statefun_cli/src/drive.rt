@@ -27,7 +27,9 @@ pub(crate) fn drive<I: Ingress, L: Link>(
     requires few { turns ≤ 1000000000 }
     requires fresh { work_of progress.old ≡ no_work }
     requires silent { progress.old.text ≡ [] }
-    ensures run { IsRun routes.now PATIENCE turns (I.lists ingress.new) (L.journal link.old) (L.journal link.new) (L.exchanges link.new) progress.new.entries result }
+    ensures run { IsRun routes.now PATIENCE turns
+        (I.lists ingress.new) (L.journal link.old) (L.journal link.new) (L.exchanges link.new)
+        progress.new.entries result }
     ensures text { IsTurnText routes.now progress.new.text progress.new.entries (Some result) }
     ensures exchanges { Extends (L.exchanges link.old) (L.exchanges link.new) }
     ensures losses { L.losses link.old ≤ L.losses link.new }

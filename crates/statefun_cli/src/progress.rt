@@ -132,7 +132,8 @@ impl Progress {
         told: Option<Answered>,
     ) -> Option<PlainEnd>
         ensures end { (letter : Letter) (events : List LinkEvent) →
-            IsTurnEnd (fated_turn routes.now turn read.now sender target self.old.waiting.items (with_front letter (work_of self.old)) events (fate_told told)) (work_of self.new) result }
+            IsTurnEnd (fated_turn routes.now turn read.now sender target self.old.waiting.items
+            (with_front letter (work_of self.old)) events (fate_told told)) (work_of self.new) result }
         ensures text { IsTextOf routes.now self.old.text self.old.entries → IsTurnText routes.now self.new.text self.new.entries result }
         ensures calm { IsCalm result }
         ensures lost { ends_lost result ≡ true → tells_lost told ≡ true }
@@ -166,7 +167,8 @@ impl Progress {
         response: InvocationResponse,
     ) -> Option<PlainEnd>
         ensures end { (letter : Letter) (events : List LinkEvent) →
-            IsTurnEnd (judged_turn turn read.now sender target self.old.waiting.items answer (with_front letter (work_of self.old)) events (Accept response)) (work_of self.new) result }
+            IsTurnEnd (judged_turn turn read.now sender target self.old.waiting.items answer
+            (with_front letter (work_of self.old)) events (Accept response)) (work_of self.new) result }
         ensures text { UnlessMemory result (self.new.text ≡ self.old.text ++ egress_text (map (egress_record target) response.outgoing_egresses)) }
         ensures calm { IsCalm result }
         ensures entries { UnlessMemory result (self.new.entries ≡ self.old.entries ++ batch_entry turn read.now sender target answer ∷ []) }

@@ -45,12 +45,25 @@ fn run_plan<I: Ingress, L: Link, O: Sink>(
     requires routable { IsTrue (is_routable plan.module) }
     requires turns { plan.turns ≤ 1000000000 }
     requires plain { IsPlain plan.module }
-    ensures ran { IsPlainRun plan.module PATIENCE plan.turns (I.lists ingress.new) (L.journal link.old) (L.journal link.new) (L.exchanges link.new) (O.written out.old) (O.written out.new)
-        (counts_of (I.faults ingress.old) (L.faults link.old) (L.losses link.old)) (counts_of (I.faults ingress.new) (L.faults link.new) (L.losses link.new)) result.entries result.end }
-    ensures fault_cause { IsFaultCause (counts_of (I.faults ingress.old) (L.faults link.old) (L.losses link.old)) (counts_of (I.faults ingress.new) (L.faults link.new) (L.losses link.new)) result.end }
-    ensures complete { IsCompleteRun plan.module PATIENCE (L.journal link.old) (L.journal link.new) (counts_of (I.faults ingress.old) (L.faults link.old) (L.losses link.old)) (counts_of (I.faults ingress.new) (L.faults link.new) (L.losses link.new)) (O.faults out.old) (O.faults out.new) result.end }
+    ensures ran { IsPlainRun plan.module PATIENCE plan.turns
+        (I.lists ingress.new) (L.journal link.old) (L.journal link.new) (L.exchanges link.new)
+        (O.written out.old) (O.written out.new)
+        (counts_of (I.faults ingress.old) (L.faults link.old) (L.losses link.old))
+        (counts_of (I.faults ingress.new) (L.faults link.new) (L.losses link.new))
+        result.entries result.end }
+    ensures fault_cause { IsFaultCause
+        (counts_of (I.faults ingress.old) (L.faults link.old) (L.losses link.old))
+        (counts_of (I.faults ingress.new) (L.faults link.new) (L.losses link.new))
+        result.end }
+    ensures complete { IsCompleteRun plan.module PATIENCE
+        (L.journal link.old) (L.journal link.new)
+        (counts_of (I.faults ingress.old) (L.faults link.old) (L.losses link.old))
+        (counts_of (I.faults ingress.new) (L.faults link.new) (L.losses link.new))
+        (O.faults out.old) (O.faults out.new)
+        result.end }
     ensures replays { IfSome (I.lists ingress.new) (λ told. IsReplayed plan.module told result.entries) }
-    ensures backed { IfSome (I.lists ingress.new) (λ told. IfFresh (L.journal link.old) (IsBackedRun plan.module told (L.exchanges link.new) result.entries)) }
+    ensures backed { IfSome (I.lists ingress.new) (λ told. IfFresh (L.journal link.old)
+        (IsBackedRun plan.module told (L.exchanges link.new) result.entries)) }
     ensures exchanges { Extends (L.exchanges link.old) (L.exchanges link.new) }
     ensures losses { L.losses link.old ≤ L.losses link.new }
     ensures sink_cause { IsSinkCauseOf (O.faults out.old) (O.faults out.new) result.end }
@@ -94,25 +107,40 @@ pub fn statefun_run<I: Ingress, L: Link, O: Sink>(
 ) -> PlainRun
     // Wrong words end the run, and right ones do not.
     ensures usage { (word : ℕ) → result.end ≡ PlainEnd.Usage word → plan_of (map string_bytes words.now) ≡ Err word }
-    ensures wrong { IfErr (plan_of (map string_bytes words.now)) (λ word. IsUsage word (O.written out.old) (O.written out.new) result.entries result.end) }
-    ensures untouched { IfErr (plan_of (map string_bytes words.now)) (λ word. (ingress.new ≡ ingress.old) × (link.new ≡ link.old)) }
+    ensures wrong { IfErr (plan_of (map string_bytes words.now)) (λ word.
+        IsUsage word (O.written out.old) (O.written out.new) result.entries result.end) }
+    ensures untouched { IfErr (plan_of (map string_bytes words.now)) (λ word.
+        (ingress.new ≡ ingress.old) × (link.new ≡ link.old)) }
 
     // The record and the end are those of the turns, over what was heard in them.
-    ensures ran { IfOk (plan_of (map string_bytes words.now)) (λ plan. IsPlainRun plan.module PATIENCE plan.turns (I.lists ingress.new) (L.journal link.old) (L.journal link.new) (L.exchanges link.new) (O.written out.old) (O.written out.new)
-        (counts_of (I.faults ingress.old) (L.faults link.old) (L.losses link.old)) (counts_of (I.faults ingress.new) (L.faults link.new) (L.losses link.new)) result.entries result.end) }
+    ensures ran { IfOk (plan_of (map string_bytes words.now)) (λ plan. IsPlainRun plan.module PATIENCE plan.turns
+        (I.lists ingress.new) (L.journal link.old) (L.journal link.new) (L.exchanges link.new)
+        (O.written out.old) (O.written out.new)
+        (counts_of (I.faults ingress.old) (L.faults link.old) (L.losses link.old))
+        (counts_of (I.faults ingress.new) (L.faults link.new) (L.losses link.new))
+        result.entries result.end) }
 
     // The ingress or the link is named as the fault only where its count rose.
-    ensures fault_cause { IsFaultCause (counts_of (I.faults ingress.old) (L.faults link.old) (L.losses link.old)) (counts_of (I.faults ingress.new) (L.faults link.new) (L.losses link.new)) result.end }
+    ensures fault_cause { IsFaultCause
+        (counts_of (I.faults ingress.old) (L.faults link.old) (L.losses link.old))
+        (counts_of (I.faults ingress.new) (L.faults link.new) (L.losses link.new))
+        result.end }
 
     // With valid answers and no fault the run is done, or makes all its turns.
-    ensures complete { IfOk (plan_of (map string_bytes words.now)) (λ plan. IsCompleteRun plan.module PATIENCE (L.journal link.old) (L.journal link.new)
-        (counts_of (I.faults ingress.old) (L.faults link.old) (L.losses link.old)) (counts_of (I.faults ingress.new) (L.faults link.new) (L.losses link.new)) (O.faults out.old) (O.faults out.new) result.end) }
+    ensures complete { IfOk (plan_of (map string_bytes words.now)) (λ plan. IsCompleteRun plan.module PATIENCE
+        (L.journal link.old) (L.journal link.new)
+        (counts_of (I.faults ingress.old) (L.faults link.old) (L.losses link.old))
+        (counts_of (I.faults ingress.new) (L.faults link.new) (L.losses link.new))
+        (O.faults out.old) (O.faults out.new)
+        result.end) }
 
     // The record is steps of the sequential machine, over the ingress' lists where these are told.
-    ensures replays { IfOk (plan_of (map string_bytes words.now)) (λ plan. IfSome (I.lists ingress.new) (λ told. IsReplayed plan.module told result.entries)) }
+    ensures replays { IfOk (plan_of (map string_bytes words.now)) (λ plan. IfSome (I.lists ingress.new) (λ told.
+        IsReplayed plan.module told result.entries)) }
 
     // Each answer in the record is one that its endpoint gave, where the link tells and has started no call of a leg from 1 on.
-    ensures backed { IfOk (plan_of (map string_bytes words.now)) (λ plan. IfSome (I.lists ingress.new) (λ told. IfFresh (L.journal link.old) (IsBackedRun plan.module told (L.exchanges link.new) result.entries))) }
+    ensures backed { IfOk (plan_of (map string_bytes words.now)) (λ plan. IfSome (I.lists ingress.new) (λ told.
+        IfFresh (L.journal link.old) (IsBackedRun plan.module told (L.exchanges link.new) result.entries))) }
 
     ensures exchanges { Extends (L.exchanges link.old) (L.exchanges link.new) }
     ensures sink_cause { IsSinkCauseOf (O.faults out.old) (O.faults out.new) result.end }

@@ -33,7 +33,8 @@ impl Progress {
     ) -> Option<PlainEnd>
         requires split { 0 < splits_in routes.now.ingresses }
         requires room { self.old.taken < 2 ^ 63 }
-        ensures made { IsTurnMade routes.now PATIENCE turn read (work_of self.old) (work_of self.new) (L.journal link.old) (L.journal link.new) (L.exchanges link.new) result }
+        ensures made { IsTurnMade routes.now PATIENCE turn read (work_of self.old) (work_of self.new)
+            (L.journal link.old) (L.journal link.new) (L.exchanges link.new) result }
         ensures text { IsTextOf routes.now self.old.text self.old.entries → IsTurnText routes.now self.new.text self.new.entries result }
         ensures exchanges { Extends (L.exchanges link.old) (L.exchanges link.new) }
         ensures losses { L.losses link.old ≤ L.losses link.new }
@@ -62,7 +63,9 @@ impl Progress {
         letter: Letter,
         link: &mut L,
     ) -> Option<PlainEnd>
-        ensures made { IsAsked routes.now PATIENCE turn read.now (with_front letter (work_of self.old)) (letter ∷ self.old.waiting.items) (work_of self.new) (L.journal link.old) (L.journal link.new) (L.exchanges link.new) result }
+        ensures made { IsAsked routes.now PATIENCE turn read.now
+            (with_front letter (work_of self.old)) (letter ∷ self.old.waiting.items) (work_of self.new)
+            (L.journal link.old) (L.journal link.new) (L.exchanges link.new) result }
         ensures text { IsTextOf routes.now self.old.text self.old.entries → IsTurnText routes.now self.new.text self.new.entries result }
         ensures exchanges { Extends (L.exchanges link.old) (L.exchanges link.new) }
         ensures losses { L.losses link.old ≤ L.losses link.new }
