@@ -40,8 +40,10 @@ fn apply_take(
     taken: Option<&IngressRecord>,
 ) -> Mem<bool>
     requires { HasRoom (Take split) (option_copied taken) (state_of machine.old) }
-    ensures allowed { IfOk result (λ allowed. allowed ≡ is_some (step_with routes.now (option_copied taken.entry) (state_of machine.old) (Take split))) }
-    ensures state { OnOk result (state_of machine.new ≡ unwrap_or (step_with routes.now (option_copied taken.entry) (state_of machine.old) (Take split)) (state_of machine.old)) }
+    ensures allowed { IfOk result (λ allowed.
+        allowed ≡ is_some (step_with routes.now (option_copied taken.entry) (state_of machine.old) (Take split))) }
+    ensures state { OnOk result (state_of machine.new ≡ unwrap_or
+        (step_with routes.now (option_copied taken.entry) (state_of machine.old) (Take split)) (state_of machine.old)) }
     ensures err { OnErr result (state_of machine.new ≡ state_of machine.old) }
 {
     if !has_split(routes.module().ingresses.as_slice(), split) {
@@ -57,7 +59,8 @@ fn apply_take(
 /// Serves a batch, where its moment is not before the address' last, its picks give a request and its answer is valid.
 fn apply_batch(alloc: Global, machine: &mut Machine, routes: &Routes, reply: &Reply) -> Mem<bool>
     ensures allowed { IfOk result (λ allowed. allowed ≡ is_some (batch_step routes.now reply.now (state_of machine.old))) }
-    ensures state { OnOk result (state_of machine.new ≡ unwrap_or (batch_step routes.now reply.now (state_of machine.old)) (state_of machine.old)) }
+    ensures state { OnOk result (state_of machine.new ≡ unwrap_or
+        (batch_step routes.now reply.now (state_of machine.old)) (state_of machine.old)) }
     ensures err { OnErr result (state_of machine.new ≡ state_of machine.old) }
 {
     if reply.moment < machine.seen(&reply.address) {
@@ -87,8 +90,10 @@ impl Machine {
         routes: &Routes,
     ) -> Mem<bool>
         requires { HasRoom entry.now.step (option_copied taken) (state_of self.old) }
-        ensures allowed { IfOk result (λ allowed. allowed ≡ is_some (step_with routes.now (option_copied taken.entry) (state_of self.old) entry.now.step)) }
-        ensures state { OnOk result (state_of self.new ≡ unwrap_or (step_with routes.now (option_copied taken.entry) (state_of self.old) entry.now.step) (state_of self.old)) }
+        ensures allowed { IfOk result (λ allowed.
+            allowed ≡ is_some (step_with routes.now (option_copied taken.entry) (state_of self.old) entry.now.step)) }
+        ensures state { OnOk result (state_of self.new ≡ unwrap_or
+            (step_with routes.now (option_copied taken.entry) (state_of self.old) entry.now.step) (state_of self.old)) }
         ensures err { OnErr result (state_of self.new ≡ state_of self.old) }
     {
         match &entry.step {

@@ -53,7 +53,8 @@ pub fn drop_picked(
     address: &Address,
     picks: &[Sender],
 )
-    ensures { (sender : Sender) → (target : Address) → mail_of mail.new sender target ≡ unpicked address.now picks.now (mail_of mail.old) sender target }
+    ensures { (sender : Sender) → (target : Address) →
+        mail_of mail.new sender target ≡ unpicked address.now picks.now (mail_of mail.old) sender target }
 {
     for sender in picks {
         mail.drop_first(address, sender);

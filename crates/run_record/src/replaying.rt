@@ -57,7 +57,8 @@ fn replay_step<I: Ingress>(
     ingress: &mut I,
 ) -> Result<bool, ReplayFault>
     ensures grows { Grows (I.lists ingress.old) (I.lists ingress.new) }
-    ensures steps { IfOk result (λ allowed. StepsOver (I.lists ingress.new) routes.now (state_of machine.old) entry.now.step allowed (state_of machine.new)) }
+    ensures steps { IfOk result (λ allowed. StepsOver (I.lists ingress.new) routes.now
+        (state_of machine.old) entry.now.step allowed (state_of machine.new)) }
     ensures cause { HasIngressCause (I.faults ingress.old) (I.faults ingress.new) result }
 {
     let found = match &entry.step {

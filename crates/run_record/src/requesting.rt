@@ -42,7 +42,8 @@ pub fn request_for(
     routes: &Routes,
     reply: &Reply,
 ) -> Mem<Option<ToFunction>>
-    ensures { IfOk result (λ request. request ≡ request_of routes.now (state_of machine.now) reply.now.address reply.now.moment reply.now.picks) }
+    ensures { IfOk result (λ request.
+        request ≡ request_of routes.now (state_of machine.now) reply.now.address reply.now.moment reply.now.picks) }
 {
     let Some(endpoint) = routes.endpoint_of(&reply.address.kind) else {
         return Ok(None);

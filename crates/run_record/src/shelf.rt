@@ -42,7 +42,8 @@ impl<K: Key, T: Drop> Shelf<K, T> {
 
     /// Adds a value at the end of a key's queue. An `Err` changes no queue, and the value is dropped.
     pub fn push(&mut self, alloc: Global, key: &K, value: T) -> Mem<()>
-        ensures ok { OnOk result (ChangesAt (list_at K.cmp self.old.queues) (list_at K.cmp self.new.queues) key.now (list_at K.cmp self.old.queues key.now ++ value ∷ [])) }
+        ensures ok { OnOk result (ChangesAt (list_at K.cmp self.old.queues) (list_at K.cmp self.new.queues)
+            key.now (list_at K.cmp self.old.queues key.now ++ value ∷ [])) }
         ensures err { OnErr result ((other : K) → list_at K.cmp self.new.queues other ≡ list_at K.cmp self.old.queues other) }
     {
         if let Some(queue) = self.queues.get_mut(key) {
@@ -56,7 +57,8 @@ impl<K: Key, T: Drop> Shelf<K, T> {
 
     /// Drops the first value of a key's queue, if there is one.
     pub fn drop_first(&mut self, key: &K)
-        ensures { ChangesAt (list_at K.cmp self.old.queues) (list_at K.cmp self.new.queues) key.now (drop 1 (list_at K.cmp self.old.queues key.now)) }
+        ensures { ChangesAt (list_at K.cmp self.old.queues) (list_at K.cmp self.new.queues)
+            key.now (drop 1 (list_at K.cmp self.old.queues key.now)) }
     {
         if let Some(queue) = self.queues.get_mut(key) {
             queue.drop_first();
@@ -65,7 +67,8 @@ impl<K: Key, T: Drop> Shelf<K, T> {
 
     /// Drops the last value of a key's queue, if there is one.
     pub fn drop_last(&mut self, key: &K)
-        ensures { ChangesAt (list_at K.cmp self.old.queues) (list_at K.cmp self.new.queues) key.now (take (length (list_at K.cmp self.old.queues key.now) - 1) (list_at K.cmp self.old.queues key.now)) }
+        ensures { ChangesAt (list_at K.cmp self.old.queues) (list_at K.cmp self.new.queues)
+            key.now (take (length (list_at K.cmp self.old.queues key.now) - 1) (list_at K.cmp self.old.queues key.now)) }
     {
         if let Some(queue) = self.queues.get_mut(key) {
             queue.drop_last();

@@ -51,8 +51,10 @@ impl<A: Key, B: Key, T: Drop> Shelves<A, B, T> {
 
     /// Adds a value at the end of a pair's queue. An `Err` changes no queue, and the value is dropped.
     pub fn push(&mut self, alloc: Global, outer: &A, inner: &B, value: T) -> Mem<()>
-        ensures ok { OnOk result (ChangesIn (list_in A.cmp B.cmp self.old.shelves) (list_in A.cmp B.cmp self.new.shelves) outer.now inner.now (list_in A.cmp B.cmp self.old.shelves outer.now inner.now ++ value ∷ [])) }
-        ensures err { OnErr result ((a : A) → (b : B) → list_in A.cmp B.cmp self.new.shelves a b ≡ list_in A.cmp B.cmp self.old.shelves a b) }
+        ensures ok { OnOk result (ChangesIn (list_in A.cmp B.cmp self.old.shelves) (list_in A.cmp B.cmp self.new.shelves)
+            outer.now inner.now (list_in A.cmp B.cmp self.old.shelves outer.now inner.now ++ value ∷ [])) }
+        ensures err { OnErr result ((a : A) → (b : B) →
+            list_in A.cmp B.cmp self.new.shelves a b ≡ list_in A.cmp B.cmp self.old.shelves a b) }
     {
         if let Some(shelf) = self.shelves.get_mut(outer) {
             return shelf.push(alloc, inner, value);
@@ -65,7 +67,8 @@ impl<A: Key, B: Key, T: Drop> Shelves<A, B, T> {
 
     /// Drops the first value of a pair's queue, if there is one.
     pub fn drop_first(&mut self, outer: &A, inner: &B)
-        ensures { ChangesIn (list_in A.cmp B.cmp self.old.shelves) (list_in A.cmp B.cmp self.new.shelves) outer.now inner.now (drop 1 (list_in A.cmp B.cmp self.old.shelves outer.now inner.now)) }
+        ensures { ChangesIn (list_in A.cmp B.cmp self.old.shelves) (list_in A.cmp B.cmp self.new.shelves)
+            outer.now inner.now (drop 1 (list_in A.cmp B.cmp self.old.shelves outer.now inner.now)) }
     {
         if let Some(shelf) = self.shelves.get_mut(outer) {
             shelf.drop_first(inner);
@@ -74,7 +77,9 @@ impl<A: Key, B: Key, T: Drop> Shelves<A, B, T> {
 
     /// Drops the last value of a pair's queue, if there is one.
     pub fn drop_last(&mut self, outer: &A, inner: &B)
-        ensures { ChangesIn (list_in A.cmp B.cmp self.old.shelves) (list_in A.cmp B.cmp self.new.shelves) outer.now inner.now (take (length (list_in A.cmp B.cmp self.old.shelves outer.now inner.now) - 1) (list_in A.cmp B.cmp self.old.shelves outer.now inner.now)) }
+        ensures { ChangesIn (list_in A.cmp B.cmp self.old.shelves) (list_in A.cmp B.cmp self.new.shelves)
+            outer.now inner.now (take (length (list_in A.cmp B.cmp self.old.shelves outer.now inner.now) - 1)
+            (list_in A.cmp B.cmp self.old.shelves outer.now inner.now)) }
     {
         if let Some(shelf) = self.shelves.get_mut(outer) {
             shelf.drop_last(inner);
@@ -84,8 +89,10 @@ impl<A: Key, B: Key, T: Drop> Shelves<A, B, T> {
     /// Adds values at the ends of their pairs' queues, in order, and answers where. An `Err` changes no queue.
     pub fn push_all(&mut self, alloc: Global, items: Vec<Placed<A, B, T>>) -> Mem<Vec<Place<A, B>>>
         ensures places { IfOk result (λ places. places.items ≡ map place_of items.items) }
-        ensures ok { OnOk result (HasBehind A.cmp B.cmp (list_in A.cmp B.cmp self.old.shelves) items.items (list_in A.cmp B.cmp self.new.shelves)) }
-        ensures err { OnErr result ((a : A) → (b : B) → list_in A.cmp B.cmp self.new.shelves a b ≡ list_in A.cmp B.cmp self.old.shelves a b) }
+        ensures ok { OnOk result (HasBehind A.cmp B.cmp
+            (list_in A.cmp B.cmp self.old.shelves) items.items (list_in A.cmp B.cmp self.new.shelves)) }
+        ensures err { OnErr result ((a : A) → (b : B) →
+            list_in A.cmp B.cmp self.new.shelves a b ≡ list_in A.cmp B.cmp self.old.shelves a b) }
     {
         let mut done = Vec::with_capacity(alloc, items.len())?;
         for item in items {
@@ -104,9 +111,11 @@ impl<A: Key, B: Key, T: Drop> Shelves<A, B, T> {
         item: Placed<A, B, T>,
         done: &mut Vec<Place<A, B>>,
     ) -> Mem<()>
-        ensures ok { OnOk result (HasBehind A.cmp B.cmp (list_in A.cmp B.cmp self.old.shelves) (item ∷ []) (list_in A.cmp B.cmp self.new.shelves)) }
+        ensures ok { OnOk result (HasBehind A.cmp B.cmp
+            (list_in A.cmp B.cmp self.old.shelves) (item ∷ []) (list_in A.cmp B.cmp self.new.shelves)) }
         ensures noted { OnOk result (done.new.items ≡ done.old.items ++ place_of item ∷ []) }
-        ensures err { OnErr result ((a : A) → (b : B) → list_in A.cmp B.cmp self.new.shelves a b ≡ list_in A.cmp B.cmp self.old.shelves a b) }
+        ensures err { OnErr result ((a : A) → (b : B) →
+            list_in A.cmp B.cmp self.new.shelves a b ≡ list_in A.cmp B.cmp self.old.shelves a b) }
         ensures kept { OnErr result (done.new.items ≡ done.old.items) }
     {
         let Placed {
@@ -126,7 +135,9 @@ impl<A: Key, B: Key, T: Drop> Shelves<A, B, T> {
 
     /// Takes away the values that were added last at these pairs, in this order.
     pub fn withdraw(&mut self, places: &[Place<A, B>])
-        ensures { (before : A → B → List T) (items : List (Placed A B T)) → map place_of items ≡ places.now → HasBehind A.cmp B.cmp before items (list_in A.cmp B.cmp self.old.shelves) → (a : A) → (b : B) → list_in A.cmp B.cmp self.new.shelves a b ≡ before a b }
+        ensures { (before : A → B → List T) (items : List (Placed A B T)) → map place_of items ≡ places.now →
+            HasBehind A.cmp B.cmp before items (list_in A.cmp B.cmp self.old.shelves) →
+            (a : A) → (b : B) → list_in A.cmp B.cmp self.new.shelves a b ≡ before a b }
     {
         for gone in 0..places.len() {
             let place = &places[places.len() - 1 - gone];
