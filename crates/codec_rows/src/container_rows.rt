@@ -1,7 +1,7 @@
 //! Rows on byte strings, texts and lists.
 use crate::told::owned;
 use proto_wire::{Bytes, List, Same, Text, TryClone};
-use row_text::{Failure, bytes_of, number_of};
+use row_text::{Failure, bytes_of};
 use std::alloc::Global;
 
 /// The text that bytes are, its length, and its bytes again.
@@ -38,7 +38,7 @@ pub(crate) fn appended(alloc: Global, words: &str) -> Result<String, Failure> {
 pub(crate) fn first_bytes(alloc: Global, words: &str) -> Result<String, Failure> {
     let (count, rest) = words.split_once(' ').unwrap_or((words, ""));
     let mut bytes = Bytes::of(bytes_of(alloc, rest)?.into_vec());
-    bytes.truncate(number_of(count)? as usize);
+    bytes.truncate(count.parse::<usize>()?);
     let emptiness = emptiness(bytes.is_empty());
     let digits = hex::encode(alloc, bytes.as_slice())?;
     Ok(format!(in alloc; "{emptiness} '{digits}'")?)

@@ -4,7 +4,7 @@ use crate::told::{fault_text, owned};
 use crate::whole::{Whole, whole_text};
 use proto_wire::{DecodeFault, WireFault};
 use request_reply::{Feeder, size_letter};
-use row_text::{Failure, bytes_of, number_of};
+use row_text::{Failure, bytes_of};
 use std::alloc::Global;
 use typed_values::decode_letter;
 
@@ -30,7 +30,12 @@ pub(crate) fn limited(alloc: Global, words: &str) -> Result<String, Failure> {
     let (limit, rest) = words.split_once(' ').ok_or(Failure::Row)?;
     let (kind, rest) = rest.split_once(' ').unwrap_or((rest, ""));
     let bytes = bytes_of(alloc, rest)?;
-    limited_text(alloc, number_of(limit)?, Whole::of(kind)?, bytes.as_slice())
+    limited_text(
+        alloc,
+        limit.parse::<u64>()?,
+        Whole::of(kind)?,
+        bytes.as_slice(),
+    )
 }
 
 fn limited_text(alloc: Global, limit: u64, whole: Whole, bytes: &[u8]) -> Result<String, Failure> {

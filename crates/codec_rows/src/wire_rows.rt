@@ -4,7 +4,7 @@ use proto_wire::{
     Bytes, WireFault, WireRecord, eight_size, four_size, next_record, put_bytes, put_varint,
     varint_in, varint_size, with_eight, with_four,
 };
-use row_text::{Failure, bytes_of, number_of};
+use row_text::{Failure, bytes_of};
 use std::alloc::Global;
 
 /// The records of a message from its begin to its end or first fault, each in a line.
@@ -36,7 +36,7 @@ pub(crate) fn record_within(alloc: Global, words: &str) -> Result<String, Failur
 }
 
 fn place_of(word: &str) -> Result<usize, Failure> {
-    Ok(number_of(word)? as usize)
+    Ok(word.parse::<usize>()?)
 }
 
 /// The record at a place; no record where the places are none of the bytes.
@@ -74,7 +74,7 @@ fn record_text(alloc: Global, record: &WireRecord) -> Result<String, Failure> {
 
 /// The shortest varint of a number, and what is read of it again.
 pub(crate) fn varint(alloc: Global, word: &str) -> Result<String, Failure> {
-    let number = number_of(word)?;
+    let number = word.parse::<u64>()?;
     let mut bytes = Bytes::new(alloc);
     put_varint(&mut bytes, number)?;
     let size = varint_size(number);

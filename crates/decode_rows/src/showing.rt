@@ -1,8 +1,9 @@
 //! What is printed of a row.
 use crate::decoding::{Decoded, decode, left_in};
 use crate::row::row_of;
-use row_text::{Failure, put_written, text_in};
+use row_text::{Failure, put_written};
 use std::alloc::Global;
+use std::str;
 
 /// What came of a row, line by line, each with two blanks before it.
 pub(crate) fn shown(alloc: Global, line: &str) -> Result<String, Failure> {
@@ -13,7 +14,7 @@ pub(crate) fn shown(alloc: Global, line: &str) -> Result<String, Failure> {
         out,
     } = decode(alloc, &row_of(line))?;
     let mut text = String::new(alloc);
-    put_written(&mut text, text_in(out.bytes().as_slice())?)?;
+    put_written(&mut text, str::from_utf8(out.bytes().as_slice())?)?;
     put_end(
         alloc,
         &mut text,

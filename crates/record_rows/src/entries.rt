@@ -1,7 +1,7 @@
 //! Entries as rows write them.
 use crate::job::function;
 use proto_wire::{Bytes, List, Mem, Text};
-use row_text::{Failure, bytes_of, number_of, text_of};
+use row_text::{Failure, bytes_of, text_of};
 use run_record::{Entry, Reply, Step};
 use sf_outside::{Call, IngressRecord};
 use std::alloc::Global;
@@ -20,9 +20,9 @@ fn entry_of(alloc: Global, word: &str) -> Result<Entry, Failure> {
     let (key, step) = word.split_once('=').ok_or(Failure::Row)?;
     let mut numbers = key.split('.');
     Ok(Entry {
-        leg: number_of(numbers.next().unwrap_or(""))?,
-        stamp: number_of(numbers.next().unwrap_or(""))?,
-        node: small(numbers.next().unwrap_or(""))?,
+        leg: numbers.next().unwrap_or("").parse::<u64>()?,
+        stamp: numbers.next().unwrap_or("").parse::<u64>()?,
+        node: numbers.next().unwrap_or("").parse::<u32>()?,
         step: step_of(alloc, step)?,
     })
 }
@@ -31,7 +31,7 @@ fn entry_of(alloc: Global, word: &str) -> Result<Entry, Failure> {
 pub(crate) fn step_of(alloc: Global, word: &str) -> Result<Step, Failure> {
     let (kind, fields) = word.split_once(':').ok_or(Failure::Row)?;
     match kind {
-        "take" => Ok(Step::Take(small(fields)?)),
+        "take" => Ok(Step::Take(fields.parse::<u32>()?)),
         "serve" => Ok(Step::Batch(reply_of(alloc, fields)?)),
         _ => Err(Failure::Row),
     }
@@ -40,7 +40,7 @@ pub(crate) fn step_of(alloc: Global, word: &str) -> Result<Step, Failure> {
 fn reply_of(alloc: Global, fields: &str) -> Result<Reply, Failure> {
     let mut parts = fields.split(':');
     let id = text_of(alloc, parts.next().unwrap_or(""))?;
-    let moment = number_of(parts.next().unwrap_or(""))?;
+    let moment = parts.next().unwrap_or("").parse::<u64>()?;
     let picks = senders_of(alloc, parts.next().unwrap_or(""))?;
     let answer = bytes_of(alloc, parts.next().unwrap_or(""))?;
     made(alloc, id, moment, picks, answer)
@@ -82,15 +82,7 @@ fn senders_of(alloc: Global, field: &str) -> Result<List<Sender>, Failure> {
 pub(crate) fn sender_of(alloc: Global, word: &str) -> Result<Sender, Failure> {
     match word.strip_prefix('@') {
         Some(id) => Ok(Sender::Function(function(alloc, text_of(alloc, id)?)?)),
-        None => Ok(Sender::Split(small(word)?)),
-    }
-}
-
-/// A number below 2^32.
-pub(crate) fn small(word: &str) -> Result<u32, Failure> {
-    match u32::try_from(number_of(word)?) {
-        Ok(number) => Ok(number),
-        Err(_) => Err(Failure::Row),
+        None => Ok(Sender::Split(word.parse::<u32>()?)),
     }
 }
 

@@ -1,9 +1,10 @@
 //! Rows of egress lines and of URLs.
 use crate::job::{function, name, routes};
 use proto_wire::{Bytes, Text};
-use row_text::{Failure, bytes_of, text_in, text_of};
+use row_text::{Failure, bytes_of, text_of};
 use run_record::put_egress_text;
 use std::alloc::Global;
+use std::str;
 use typed_values::{EgressRecord, NameFault, TypeName, TypedValue, parse_type_name};
 
 /// The line of an egress record of `n/f` to `n/e`: `ID TYPENAME` and `none` or the value's bytes.
@@ -20,7 +21,7 @@ pub(crate) fn line(alloc: Global, words: &str) -> Result<String, Failure> {
     };
     let mut line = Bytes::new(alloc);
     put_egress_text(&mut line, [record].as_slice())?;
-    let line = text_in(line.as_slice())?;
+    let line = str::from_utf8(line.as_slice())?;
     Ok(format!(in alloc; "  {line}")?)
 }
 

@@ -1,5 +1,5 @@
 //! Rows of steps, one after the other, and of what the machine then holds.
-use crate::entries::{record, sender_of, small, step_of};
+use crate::entries::{record, sender_of, step_of};
 use crate::job::{function, name, routes};
 use proto_wire::Mem;
 use row_text::{Failure, text_of};
@@ -37,7 +37,7 @@ fn told(
     match kind {
         "take" => take(alloc, machine, routes, fields),
         "serve" => made(alloc, machine, routes, step_of(alloc, word)?, None),
-        "taken" => number_text(alloc, machine.taken(small(fields)?)),
+        "taken" => number_text(alloc, machine.taken(fields.parse::<u32>()?)),
         "seen" => seen(alloc, machine, fields),
         "mail" => mail(alloc, machine, fields),
         "egress" => egress(alloc, machine, fields),
@@ -52,14 +52,20 @@ fn take(
     fields: &str,
 ) -> Result<String, Failure> {
     match fields.split_once(':') {
-        None => made(alloc, machine, routes, Step::Take(small(fields)?), None),
+        None => made(
+            alloc,
+            machine,
+            routes,
+            Step::Take(fields.parse::<u32>()?),
+            None,
+        ),
         Some((split, key)) => {
             let found = record(alloc, key)?;
             made(
                 alloc,
                 machine,
                 routes,
-                Step::Take(small(split)?),
+                Step::Take(split.parse::<u32>()?),
                 Some(&found),
             )
         }

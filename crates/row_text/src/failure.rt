@@ -1,8 +1,13 @@
 //! Why a program of rows gives up.
+ghost use Rattle.std.specs.Prelude.{◌≡◌};
+ghost use Rattle.row_text.specs.declared.failure.Failure.TheVariants as failures;
+
 use hex::FromHexError;
 use proto_wire::{DecodeFault, OutOfMemory};
 use std::alloc::{AllocError, AllocFailed};
 use std::io;
+use std::num::ParseIntError;
+use std::str::Utf8Error;
 
 /// Why a program of rows gives up.
 #[derive(Clone, Copy, Debug, PartialEq, Eq)]
@@ -17,7 +22,7 @@ pub enum Failure {
 
 impl Failure {
     /// The exit status that tells of it.
-    pub fn status(self) -> u8 {
+    pub(crate) fn status(self) -> u8 {
         match self {
             Failure::Row => 3,
             Failure::OutOfMemory => 4,
@@ -26,7 +31,7 @@ impl Failure {
     }
 
     /// What is told of it.
-    pub fn text(self) -> &'static str {
+    pub(crate) fn text(self) -> &'static str {
         match self {
             Failure::Row => "the row behind the last line is not of its form",
             Failure::OutOfMemory => "out of memory",
@@ -42,6 +47,8 @@ impl From<OutOfMemory> for Failure {
 }
 
 impl From<AllocError> for Failure {
+    ghost from_gives = { λ _ r. r ≡ failures.OutOfMemory };
+
     fn from(_: AllocError) -> Failure {
         Failure::OutOfMemory
     }
@@ -50,6 +57,18 @@ impl From<AllocError> for Failure {
 impl<T: Drop> From<AllocFailed<T>> for Failure {
     fn from(_: AllocFailed<T>) -> Failure {
         Failure::OutOfMemory
+    }
+}
+
+impl From<ParseIntError> for Failure {
+    fn from(_: ParseIntError) -> Failure {
+        Failure::Row
+    }
+}
+
+impl From<Utf8Error> for Failure {
+    fn from(_: Utf8Error) -> Failure {
+        Failure::Row
     }
 }
 

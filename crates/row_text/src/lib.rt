@@ -11,5 +11,5 @@ mod words;
 
 pub use failure::Failure;
 pub use rows::{Rows, show_rows};
-pub use shown::{put_written, text_in};
-pub use words::{bytes_of, calls_of, number_of, text_of, words_of};
+pub use shown::put_written;
+pub use words::{bytes_of, calls_of, text_of, words_of};

@@ -1,14 +1,5 @@
 //! What a sink holds, below a row.
 use crate::Failure;
-use std::str;
-
-/// The text that bytes are.
-pub fn text_in(bytes: &[u8]) -> Result<&str, Failure> {
-    match str::from_utf8(bytes) {
-        Ok(text) => Ok(text),
-        Err(_) => Err(Failure::Row),
-    }
-}
 
 /// Adds what was written, each line with two blanks before it, and says where the last has no line feed.
 pub fn put_written(text: &mut String, written: &str) -> Result<(), Failure> {

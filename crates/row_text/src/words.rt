@@ -1,4 +1,8 @@
-//! Bytes, texts and numbers as rows write them.
+//! Words, bytes and numbers as rows write them.
+ghost use Rattle.std.specs.Prelude.{◌≡◌, ◌≢◌, [], codes, IfOk, IfErr, IsUtf8, ◌⊎◌};
+ghost use Rattle.percent_encoding.specs.Percent.{percent_decode};
+ghost use Rattle.row_text.specs.declared.failure.Failure.TheVariants.{OutOfMemory, Row};
+
 use crate::Failure;
 use percent_encoding::percent_decode_str;
 use proto_wire::{Bytes, List, Text};
@@ -28,22 +32,19 @@ fn quoted(word: &str) -> Option<&str> {
 fn put_digits(alloc: Global, into: &mut Bytes, word: &str) -> Result<(), Failure> {
     let (digits, times) = word.split_once('*').unwrap_or((word, "1"));
     let unit = hex::decode(alloc, digits)?;
-    for _ in 0..number_of(times)? {
+    for _ in 0..times.parse::<u64>()? {
         into.append(unit.as_slice())?;
     }
     Ok(())
 }
 
-/// The number of decimal digits.
-pub fn number_of(word: &str) -> Result<u64, Failure> {
-    match word.parse::<u64>() {
-        Ok(number) => Ok(number),
-        Err(_) => Err(Failure::Row),
-    }
-}
-
-/// A text in which `%` and two hexadecimal digits stand for that byte. `%` alone is the empty text.
-pub fn text_of(alloc: Global, escaped: &str) -> Result<Text, Failure> {
+/// A text in which `%` and two hexadecimal digits stand for that byte (RFC 3986, section 2.1). `%` alone is the empty text.
+/// `Row` where the bytes are no UTF-8.
+pub fn text_of(alloc: Global, escaped: &str) -> Result<Text, Failure>
+    ensures empty { escaped.now ≡ codes "%" → IfOk result (λ text. text ≡ []) }
+    ensures text { escaped.now ≢ codes "%" → IfOk result (λ text. text ≡ percent_decode escaped.now) }
+    ensures err { IfErr result (λ failure. (failure ≡ OutOfMemory) ⊎ ((failure ≡ Row) × ¬ (IsUtf8 (percent_decode escaped.now)))) }
+{
     let mut bytes = Vec::new(alloc);
     if escaped != "%" {
         percent_decode_str(escaped).append_to(&mut bytes)?;
@@ -69,7 +70,7 @@ pub fn calls_of(alloc: Global, field: &str, prefix: &str) -> Result<List<u64>, F
     let mut calls = List::new(alloc);
     for word in field.split_whitespace() {
         if let Some(number) = word.strip_prefix(prefix) {
-            calls.push(number_of(number)?)?;
+            calls.push(number.parse::<u64>()?)?;
         }
     }
     Ok(calls)

@@ -1,10 +1,11 @@
 //! Requests and batches of a run in full.
 use message_text::put_decimal;
 use proto_wire::{Bytes, List, Mem};
-use row_text::{Failure, text_in};
+use row_text::Failure;
 use run_record::{Entry, Reply, Step, put_address, put_hex};
 use sf_outside::{Call, LinkEvent};
 use std::alloc::Global;
+use std::str;
 use typed_values::Sender;
 
 /// Adds a line for each start of a journal: its call, URL and request.
@@ -86,7 +87,7 @@ fn put_senders(alloc: Global, into: &mut Bytes, picks: &List<Sender>) -> Mem<()>
 
 /// Adds bytes that are a text, and a line feed.
 fn put_line(text: &mut String, line: &[u8]) -> Result<(), Failure> {
-    text.push_str(text_in(line)?)?;
+    text.push_str(str::from_utf8(line)?)?;
     text.push_str("\n")?;
     Ok(())
 }

@@ -1,7 +1,7 @@
 //! Lines of ends that no run comes to yet: endpoints that failed for several reasons.
 use proto_wire::{Bytes, List, Mem, Text};
 use request_reply::{Flaw, FlawKind, Reason};
-use row_text::{Failure, number_of, text_of};
+use row_text::{Failure, text_of};
 use statefun_cli::PlainEnd;
 use std::alloc::Global;
 use typed_values::{Address, TypeName};
@@ -37,7 +37,7 @@ fn reason_of(alloc: Global, word: &str) -> Result<Reason, Failure> {
     let more = parts.next().unwrap_or("");
     match name {
         "late" => Ok(Reason::Late),
-        "lost" => Ok(Reason::Lost(small(more)?)),
+        "lost" => Ok(Reason::Lost(more.parse::<u32>()?)),
         "refused" => Ok(Reason::Refused {
             answer: Bytes::new(alloc),
             flaw: flaw_of(more, parts.next().unwrap_or(""))?,
@@ -46,18 +46,10 @@ fn reason_of(alloc: Global, word: &str) -> Result<Reason, Failure> {
     }
 }
 
-/// A number below 2^32.
-fn small(text: &str) -> Result<u32, Failure> {
-    match u32::try_from(number_of(text)?) {
-        Ok(number) => Ok(number),
-        Err(_) => Err(Failure::Row),
-    }
-}
-
 fn flaw_of(name: &str, index: &str) -> Result<Flaw, Failure> {
     Ok(Flaw {
         kind: kind_of(name)?,
-        index: small(index)?,
+        index: index.parse::<u32>()?,
         wire: None,
     })
 }

@@ -40,10 +40,7 @@ fn record_of(alloc: Global, word: &str) -> Result<IngressRecord, Failure> {
 }
 
 fn put_many(alloc: Global, records: &mut List<IngressRecord>, number: &str) -> Result<(), Failure> {
-    let Ok(count) = number.parse::<u32>() else {
-        return Err(Failure::Row);
-    };
-    for place in 0..count {
+    for place in 0..number.parse::<u32>()? {
         records.push(numbered(alloc, place)?)?;
     }
     Ok(())

@@ -2,7 +2,7 @@
 ghost use Rattle.std.specs.Prelude.{◌≤◌, length};
 
 use proto_wire::{Bytes, List, Mem};
-use row_text::{Failure, bytes_of, number_of, text_of};
+use row_text::{Failure, bytes_of, text_of};
 use sf_outside::Turn;
 use std::alloc::Global;
 
@@ -23,7 +23,7 @@ pub(crate) fn turns_of(alloc: Global, field: &str) -> Result<List<Turn>, Failure
 fn put_turns(alloc: Global, turns: &mut List<Turn>, word: &str) -> Result<(), Failure> {
     let mut parts = word.split(':');
     let kind = parts.next().unwrap_or("");
-    let number = number_of(parts.next().unwrap_or(""))?;
+    let number = parts.next().unwrap_or("").parse::<u64>()?;
     let more = parts.next().unwrap_or("");
     match kind {
         "say" => put_said(alloc, turns, number, more),
@@ -49,7 +49,7 @@ fn put_all_said(
     first: u64,
     behind: &str,
 ) -> Result<(), Failure> {
-    for call in first..number_of(behind)? {
+    for call in first..behind.parse::<u64>()? {
         let text = format!(in alloc; "{call}")?;
         let answer = saying(alloc, text.as_str().as_bytes())?;
         turns.push(Turn::Reply(call, answer))?;
@@ -64,10 +64,7 @@ fn put_answer(alloc: Global, turns: &mut List<Turn>, call: u64, hex: &str) -> Re
 }
 
 fn put_loss(turns: &mut List<Turn>, call: u64, note: &str) -> Result<(), Failure> {
-    match note.parse::<u32>() {
-        Ok(note) => turns.push(Turn::Lose(call, note))?,
-        Err(_) => return Err(Failure::Row),
-    }
+    turns.push(Turn::Lose(call, note.parse::<u32>()?))?;
     Ok(())
 }
 

@@ -6,10 +6,11 @@ use crate::making::{Made, make};
 use crate::replays::{Again, replay_row};
 use crate::row::{Row, row_of};
 use proto_wire::Bytes;
-use row_text::{Failure, put_written, text_in};
+use row_text::{Failure, put_written};
 use run_record::{Entry, Step};
 use sf_outside::{Call, LinkEvent};
 use std::alloc::Global;
+use std::str;
 
 /// What came of a row, line by line, each with two blanks before it.
 pub(crate) fn shown(alloc: Global, line: &str) -> Result<String, Failure> {
@@ -25,7 +26,7 @@ fn end_shown(alloc: Global, field: &str) -> Result<String, Failure> {
     let mut line = Bytes::new(alloc);
     end.put_line(alloc, &mut line, 0)?;
     let mut text = String::new(alloc);
-    put_written(&mut text, text_in(line.as_slice())?)?;
+    put_written(&mut text, str::from_utf8(line.as_slice())?)?;
     let status = end.status();
     text.push_str(format!(in alloc; "  status {status}\n")?.as_str())?;
     Ok(text)
@@ -41,7 +42,7 @@ fn run_shown(alloc: Global, line: &str) -> Result<String, Failure> {
 }
 
 fn put_run(alloc: Global, text: &mut String, row: &Row, made: &Made) -> Result<(), Failure> {
-    let written = text_in(made.out.bytes().as_slice())?;
+    let written = str::from_utf8(made.out.bytes().as_slice())?;
     let replay = replay_row(alloc, row, &made.entries, written)?;
     put_written(text, written)?;
     put_status(alloc, text, made.status)?;
