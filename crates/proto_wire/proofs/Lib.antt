@@ -1,1 +1,4 @@
 pub mod Fit
+pub mod Scans
+pub mod Again
+pub mod RoundTrip

@@ -1,10 +1,6 @@
-pub mod Reads
 pub mod Varint
 pub mod Record
-pub mod Seen
-pub mod Message
-pub mod Counts
-pub mod Again
-pub mod Scans
-pub mod Steps
 pub mod Places
+pub mod Reads
+pub mod Message
+pub mod Kinds

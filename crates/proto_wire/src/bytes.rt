@@ -1,7 +1,7 @@
 //! Byte strings.
 ghost use Rattle.std.specs.Prelude.{◌≡◌, ◌↔◌, [], ◌∷◌, ◌++◌, length, take, IsTrue, IfOk, OnOk, OnErr};
 
-use crate::{Mem, Same, TryClone};
+use crate::{Mem, TryClone};
 use std::alloc::Global;
 use std::marker::Model;
 
@@ -27,6 +27,15 @@ impl Bytes {
         Bytes {
             items: Vec::new(alloc),
         }
+    }
+
+    /// No bytes, with room for so many.
+    pub fn with_capacity(alloc: Global, capacity: usize) -> Mem<Bytes>
+        ensures { IfOk result (λ bytes. bytes ≡ []) }
+    {
+        Ok(Bytes {
+            items: Vec::with_capacity(alloc, capacity)?,
+        })
     }
 
     /// The bytes of a vector, which is moved in.
@@ -107,11 +116,5 @@ impl Bytes {
 impl TryClone for Bytes {
     fn try_clone(&self, alloc: Global) -> Mem<Bytes> {
         Bytes::copy_of(alloc, self.as_slice())
-    }
-}
-
-impl Same for Bytes {
-    fn is_same(&self, other: &Bytes) -> bool {
-        self.as_slice() == other.as_slice()
     }
 }

@@ -1,13 +1,13 @@
 //! Fields: how a record enters a value, by the kind of its field.
-ghost use Rattle.std.specs.Prelude.{◌≡◌, ◌++◌, ◌∷◌, [], List, Some, None, Bool, ◌%◌, ◌^◌, IfOk, IfSome, IsSome, ◌↔◌, IsTrue, is_some};
+ghost use Rattle.std.specs.Prelude.{◌≡◌, ◌++◌, ◌∷◌, [], List, Some, None, Bool, IfOk, IfSome, IsSome, ◌↔◌, IsTrue, is_some};
 ghost use Rattle.std.specs.Str.{is_utf8};
-ghost use Rattle.proto_wire.specs.Reads.{Gives, Changes};
-ghost use Rattle.proto_wire.specs.Seen.{item_of};
-ghost use Rattle.proto_wire.specs.Message.{belongs, text_of, enum_of, long_of, bool_of, short_of, four_of, joined, entered, appended};
+ghost use Rattle.proto_wire.specs.Reads.{ReadsOr, Changes};
+ghost use Rattle.proto_wire.specs.Places.{item_of, IsInside};
+ghost use Rattle.proto_wire.specs.Message.{belongs, text_of, int_of, long_of, bool_of, short_of, joined, entered, appended};
 
-use crate::message::{Message, merge};
-use crate::varint::place;
-use crate::{Bytes, DecodeFault, List, Mem, Record, Text, WireFault, WireKind};
+use crate::message::{Decode, merge};
+use crate::varint::fault_at;
+use crate::{Bytes, DecodeFault, List, Mem, Record, Text, WireKind};
 use std::alloc::Global;
 
 impl Record<'_> {
@@ -22,14 +22,16 @@ impl Record<'_> {
     /// The payload as a text. The fault is NotUtf8, at the first byte of the payload.
     #[tactic(auto, unfolding(crate::specs::Message::text_of))]
     pub fn text(&self, alloc: Global) -> Result<Text, DecodeFault>
-        ensures { Gives (λ text. text) result (text_of (item_of self.now)) }
+        requires inside { IsInside self.now }
+        ensures { ReadsOr self.now.end (λ text. text) result (text_of (item_of self.now)) }
     {
         match utf8(self.payload) {
             Some(text) => Ok(Text::copy_of(alloc, text)?),
-            None => Err(DecodeFault::Wire(WireFault {
-                kind: WireKind::NotUtf8,
-                at: place(self.end, self.payload),
-            })),
+            None => Err(DecodeFault::Wire(fault_at(
+                WireKind::NotUtf8,
+                self.end,
+                self.payload,
+            ))),
         }
     }
 
@@ -48,10 +50,10 @@ impl Record<'_> {
         self.number != 0
     }
 
-    /// The number as an enum: its low 32 bits, signed.
-    #[tactic(auto, unfolding(crate::specs::Message::enum_of))]
-    pub fn enumerated(&self) -> i32
-        ensures { result ≡ enum_of (item_of self.now) }
+    /// The number as 32 bits, signed: its low ones. So an enum is read, and a signed number of four bytes.
+    #[tactic(auto, unfolding(crate::specs::Message::int_of))]
+    pub fn int(&self) -> i32
+        ensures { result ≡ int_of (item_of self.now) }
     {
         ((self.number % 0x1_0000_0000) as u32).cast_signed()
     }
@@ -64,26 +66,56 @@ impl Record<'_> {
         self.number.cast_signed()
     }
 
-    /// The number of four bytes, signed; of a greater number the low 32 bits.
-    #[tactic(auto, unfolding(crate::specs::Message::four_of))]
-    pub fn four(&self) -> i32
-        ensures { result ≡ four_of (item_of self.now) }
-    {
-        ((self.number % 0x1_0000_0000) as u32).cast_signed()
-    }
-
     /// The number as 32 bits. The fault is OverLimit, at the first byte of the number.
     #[tactic(auto, unfolding(crate::specs::Message::short_of))]
     pub fn short(&self) -> Result<u32, DecodeFault>
-        ensures { Gives (λ number. number) result (short_of (item_of self.now)) }
+        requires inside { IsInside self.now }
+        ensures { ReadsOr self.now.end (λ number. number) result (short_of (item_of self.now)) }
     {
         match u32::try_from(self.number) {
             Ok(number) => Ok(number),
-            Err(_) => Err(DecodeFault::Wire(WireFault {
-                kind: WireKind::OverLimit,
-                at: place(self.end, self.payload),
-            })),
+            Err(_) => Err(DecodeFault::Wire(fault_at(
+                WireKind::OverLimit,
+                self.end,
+                self.payload,
+            ))),
         }
+    }
+
+    /// The message that stands, or the blank one, with the payload in it.
+    #[tactic(auto, unfolding(crate::specs::Message::joined))]
+    pub fn message<M: Decode>(&self, alloc: Global, held: Option<M>) -> Result<M, DecodeFault>
+        requires inside { IsInside self.now }
+        ensures { ReadsOr self.now.end (λ message. message) result (joined M.empty M.rows held (item_of self.now)) }
+    {
+        let mut message = match held {
+            Some(message) => message,
+            None => M::blank(alloc),
+        };
+        merge(alloc, &mut message, self.end, self.payload)?;
+        Ok(message)
+    }
+
+    /// Takes the payload into the message that stands, or into the blank one. After an `Err` the slot is of no further use.
+    #[tactic(auto, unfolding(crate::specs::Message::entered))]
+    pub fn enter<M: Decode>(&self, alloc: Global, slot: &mut Option<M>) -> Result<(), DecodeFault>
+        requires inside { IsInside self.now }
+        ensures { Changes self.now.end result slot.new (entered M.empty M.rows slot.old (item_of self.now)) }
+    {
+        *slot = Some(self.message(alloc, slot.take())?);
+        Ok(())
+    }
+
+    /// Adds the message of the payload to the list. An `Err` changes nothing.
+    #[tactic(auto, unfolding(crate::specs::Message::appended))]
+    pub fn append_to<M: Decode>(&self, alloc: Global, list: &mut List<M>) -> Result<(), DecodeFault>
+        requires inside { IsInside self.now }
+        ensures { Changes self.now.end result list.new (appended M.empty M.rows list.old (item_of self.now)) }
+    {
+        let mut next = M::blank(alloc);
+        merge(alloc, &mut next, self.end, self.payload)?;
+        list.push(next)?;
+        Ok(())
     }
 }
 
@@ -95,49 +127,4 @@ fn utf8(bytes: &[u8]) -> Option<&str>
         Ok(text) => Some(text),
         Err(_) => None,
     }
-}
-
-/// The message that stands, or the blank one, with the payload in it.
-#[tactic(auto, unfolding(crate::specs::Message::joined))]
-pub fn joined<M: Message>(
-    alloc: Global,
-    held: Option<M>,
-    item: &Record<'_>,
-) -> Result<M, DecodeFault>
-    ensures { Gives (λ message. message) result (joined M.empty M.rows held (item_of item.now)) }
-{
-    let mut message = match held {
-        Some(message) => message,
-        None => M::blank(alloc),
-    };
-    merge(alloc, &mut message, item.end, item.payload)?;
-    Ok(message)
-}
-
-/// Takes the payload into the message that stands, or into the blank one. After an `Err` the slot is of no further use.
-#[tactic(auto, unfolding(crate::specs::Message::entered))]
-pub fn join<M: Message>(
-    alloc: Global,
-    slot: &mut Option<M>,
-    item: &Record<'_>,
-) -> Result<(), DecodeFault>
-    ensures { Changes result slot.new (entered M.empty M.rows slot.old (item_of item.now)) }
-{
-    *slot = Some(joined(alloc, slot.take(), item)?);
-    Ok(())
-}
-
-/// Adds the message of the payload to the list. An `Err` changes nothing.
-#[tactic(auto, unfolding(crate::specs::Message::appended))]
-pub fn append<M: Message>(
-    alloc: Global,
-    list: &mut List<M>,
-    item: &Record<'_>,
-) -> Result<(), DecodeFault>
-    ensures { Changes result list.new (appended M.empty M.rows list.old (item_of item.now)) }
-{
-    let mut next = M::blank(alloc);
-    merge(alloc, &mut next, item.end, item.payload)?;
-    list.push(next)?;
-    Ok(())
 }

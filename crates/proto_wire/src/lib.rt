@@ -8,23 +8,27 @@ mod field;
 mod list;
 mod memory;
 mod message;
+mod module_kind;
 mod put;
 mod record;
+mod size;
 mod text;
 mod varint;
 
 pub use bytes::Bytes;
-pub use fault::{DecodeFault, ModuleKind, WireFault, WireKind, no_member};
-pub use field::{append, join, joined};
+pub use fault::{DecodeFault, WireFault, WireKind, no_member};
 pub use list::List;
-pub use memory::{Mem, OutOfMemory, Same, TryClone};
-pub use message::{Message, merge};
+pub use memory::{Mem, OutOfMemory, TryClone};
+pub use message::{Decode, Encode, decoded, encoded, last_record};
+pub use module_kind::ModuleKind;
 pub use put::{
-    bool_size, bytes_size, choice_size, eight_size, four_size, member_size, message_size,
-    messages_size, number_size, put_bytes, record_size, signed_size, with_bool, with_bytes,
-    with_choice, with_eight, with_enum, with_four, with_head, with_long, with_member, with_message,
-    with_messages, with_number, with_text,
+    put_bytes, with_bool, with_bytes, with_choice, with_eight, with_enum, with_four, with_long,
+    with_member, with_message, with_messages, with_number, with_text,
 };
 pub use record::{Record, WireRecord, next_record};
+pub use size::{
+    bool_size, bytes_size, choice_size, member_size, message_size, messages_size, number_size,
+    record_size, signed_size,
+};
 pub use text::Text;
-pub use varint::{put_varint, varint_in, varint_size};
+pub use varint::{put_varint, varint_size};

@@ -1,7 +1,7 @@
 //! Lists.
 ghost use Rattle.std.specs.Prelude.{◌≡◌, ◌↔◌, ◌+◌, ◌<◌, [], ◌∷◌, ◌++◌, length, IsTrue, IfOk, OnOk, OnErr};
 
-use crate::{Mem, Same, TryClone};
+use crate::{Mem, TryClone};
 use std::alloc::Global;
 use std::marker::Model;
 
@@ -95,24 +95,4 @@ fn cloned<T: TryClone + Drop>(alloc: Global, items: &[T]) -> Mem<Vec<T>>
         copy.push(item.try_clone(alloc)?)?;
     }
     Ok(copy)
-}
-
-impl<T: Same> Same for List<T> {
-    fn is_same(&self, other: &List<T>) -> bool {
-        are_same(self.as_slice(), other.as_slice())
-    }
-}
-
-fn are_same<T: Same>(a: &[T], b: &[T]) -> bool
-    ensures { IsTrue result ↔ (a.now ≡ b.now) }
-{
-    if a.len() != b.len() {
-        return false;
-    }
-    for (x, y) in a.iter().zip(b) {
-        if !x.is_same(y) {
-            return false;
-        }
-    }
-    true
 }

@@ -1,5 +1,5 @@
-//! Want of memory, and the two things that plain values can do: be copied and be compared.
-ghost use Rattle.std.specs.Prelude.{◌≡◌, ◌↔◌, IfOk, IsTrue};
+//! Want of memory, and how plain values are copied.
+ghost use Rattle.std.specs.Prelude.{◌≡◌, IfOk};
 ghost use Rattle.proto_wire.specs.declared.memory.OutOfMemory.{OutOfMemory};
 
 use std::alloc::{AllocError, AllocFailed, Global};
@@ -39,11 +39,4 @@ pub trait TryClone {
     /// The same value again, in memory of its own.
     fn try_clone(&self, alloc: Global) -> Mem<Self>
         ensures { IfOk result (λ copy. copy ≡ self.now) };
-}
-
-/// A value that can be compared with another of its type, by all that it is.
-pub trait Same {
-    /// True exactly where the two are one value. Takes no memory.
-    fn is_same(&self, other: &Self) -> bool
-        ensures { IsTrue result ↔ (self.now ≡ other.now) };
 }

@@ -1,13 +1,11 @@
 //! Records (Protocol Buffers encoding guide, "Message Structure"): a tag and a payload.
 ghost use Rattle.std.specs.Prelude.{◌≡◌, ◌+◌, ◌*◌, ◌-◌, ◌%◌, ◌/◌, ◌==◌, ◌^◌, ◌<◌, ◌≤◌, ◌&&◌, length, take, drop, IfOk};
 ghost use Rattle.std.specs.Int.{w32, w64};
-ghost use Rattle.proto_wire.specs.Varint.{place};
 ghost use Rattle.proto_wire.specs.Reads.{Reads};
 ghost use Rattle.proto_wire.specs.Record.{tag_in, fixed_in, delimited_in, number_in, payload_in, record_in, is_wire};
-ghost use Rattle.proto_wire.specs.Places.{next_record};
-ghost use Rattle.proto_wire.specs.Seen.{item_of};
+ghost use Rattle.proto_wire.specs.Places.{next_record, item_of, places, IsPlaced};
 
-use crate::varint::{place, varint_in};
+use crate::varint::{fault_at, place, varint_in};
 use crate::{WireFault, WireKind};
 
 /// One record, whose payload is lent.
@@ -26,27 +24,19 @@ pub struct Record<'a> {
 
 #[tactic(auto, unfolding(crate::specs::Record::tag_in))]
 fn tag_in(end: usize, bytes: &[u8]) -> Result<(u32, &[u8]), WireFault>
-    ensures { Reads (λ x. (x.0, x.1.now)) result (tag_in end bytes.now) }
+    requires inside { length bytes.now ≤ end }
+    ensures reads { Reads end (λ x. (x.0, x.1.now)) result (tag_in bytes.now) }
+    ensures shorter { IfOk result (λ x. length x.1.now < length bytes.now) }
 {
     let (tag, rest) = varint_in(end, bytes)?;
-    let at = place(end, bytes);
     let Ok(tag) = u32::try_from(tag) else {
-        return Err(WireFault {
-            kind: WireKind::TagTooLarge,
-            at,
-        });
+        return Err(fault_at(WireKind::TagTooLarge, end, bytes));
     };
     if tag < 8 {
-        return Err(WireFault {
-            kind: WireKind::FieldZero,
-            at,
-        });
+        return Err(fault_at(WireKind::FieldZero, end, bytes));
     }
     if !is_wire(tag % 8) {
-        return Err(WireFault {
-            kind: WireKind::WireType,
-            at,
-        });
+        return Err(fault_at(WireKind::WireType, end, bytes));
     }
     Ok((tag, rest))
 }
@@ -59,15 +49,20 @@ fn is_wire(wire: u32) -> bool
 
 #[tactic(auto, unfolding(crate::specs::Record::number_in))]
 fn number_in(end: usize, tag: u32, bytes: &[u8]) -> Result<(Record<'_>, &[u8]), WireFault>
-    ensures { Reads (λ x. (item_of x.0, x.1.now)) result (number_in end tag bytes.now) }
+    requires inside { length bytes.now ≤ end }
+    ensures reads { Reads end (λ x. (item_of x.0, x.1.now)) result (number_in tag bytes.now) }
+    ensures shorter { IfOk result (λ x. length x.1.now ≤ length bytes.now) }
+    ensures placed { IfOk result (λ x. IsPlaced end x.0 x.1.now) }
 {
     let (number, rest) = varint_in(end, bytes)?;
-    let (payload, _) = bytes.split_at(bytes.len().saturating_sub(rest.len()));
+    let (payload, _) = bytes.split_at(bytes.len() - rest.len());
     Ok((made(end, tag, number, payload, rest), rest))
 }
 
 fn made<'a>(end: usize, tag: u32, number: u64, payload: &'a [u8], rest: &[u8]) -> Record<'a>
-    ensures { item_of result ≡ record { field = tag / 8; wire = tag % 8; number = number; payload = payload.entry.now; end = place end rest.now } }
+    requires inside { length payload.now + length rest.now ≤ end }
+    ensures is { item_of result ≡ record { field = tag / 8; wire = tag % 8; number = number; payload = payload.entry.now } }
+    ensures placed { IsPlaced end result rest.now }
 {
     Record {
         field: tag / 8,
@@ -80,13 +75,13 @@ fn made<'a>(end: usize, tag: u32, number: u64, payload: &'a [u8], rest: &[u8]) -
 
 #[tactic(auto, unfolding(crate::specs::Record::fixed_in))]
 fn eight_in(end: usize, tag: u32, bytes: &[u8]) -> Result<(Record<'_>, &[u8]), WireFault>
-    ensures { Reads (λ x. (item_of x.0, x.1.now)) result (fixed_in w64 end tag bytes.now) }
+    requires inside { length bytes.now ≤ end }
+    ensures reads { Reads end (λ x. (item_of x.0, x.1.now)) result (fixed_in w64 tag bytes.now) }
+    ensures shorter { IfOk result (λ x. length x.1.now ≤ length bytes.now) }
+    ensures placed { IfOk result (λ x. IsPlaced end x.0 x.1.now) }
 {
     if bytes.len() < 8 {
-        return Err(WireFault {
-            kind: WireKind::Truncated,
-            at: place(end, bytes),
-        });
+        return Err(fault_at(WireKind::Truncated, end, bytes));
     }
     let (front, rest) = bytes.split_at(8);
     let number = u64::from_le_bytes([
@@ -97,13 +92,13 @@ fn eight_in(end: usize, tag: u32, bytes: &[u8]) -> Result<(Record<'_>, &[u8]), W
 
 #[tactic(auto, unfolding(crate::specs::Record::fixed_in))]
 fn four_in(end: usize, tag: u32, bytes: &[u8]) -> Result<(Record<'_>, &[u8]), WireFault>
-    ensures { Reads (λ x. (item_of x.0, x.1.now)) result (fixed_in w32 end tag bytes.now) }
+    requires inside { length bytes.now ≤ end }
+    ensures reads { Reads end (λ x. (item_of x.0, x.1.now)) result (fixed_in w32 tag bytes.now) }
+    ensures shorter { IfOk result (λ x. length x.1.now ≤ length bytes.now) }
+    ensures placed { IfOk result (λ x. IsPlaced end x.0 x.1.now) }
 {
     if bytes.len() < 4 {
-        return Err(WireFault {
-            kind: WireKind::Truncated,
-            at: place(end, bytes),
-        });
+        return Err(fault_at(WireKind::Truncated, end, bytes));
     }
     let (front, rest) = bytes.split_at(4);
     let number = u32::from_le_bytes([front[0], front[1], front[2], front[3]]);
@@ -112,14 +107,14 @@ fn four_in(end: usize, tag: u32, bytes: &[u8]) -> Result<(Record<'_>, &[u8]), Wi
 
 #[tactic(auto, unfolding(crate::specs::Record::delimited_in))]
 fn delimited_in(end: usize, tag: u32, bytes: &[u8]) -> Result<(Record<'_>, &[u8]), WireFault>
-    ensures { Reads (λ x. (item_of x.0, x.1.now)) result (delimited_in end tag bytes.now) }
+    requires inside { length bytes.now ≤ end }
+    ensures reads { Reads end (λ x. (item_of x.0, x.1.now)) result (delimited_in tag bytes.now) }
+    ensures shorter { IfOk result (λ x. length x.1.now ≤ length bytes.now) }
+    ensures placed { IfOk result (λ x. IsPlaced end x.0 x.1.now) }
 {
     let (len, rest) = varint_in(end, bytes)?;
     if (rest.len() as u64) < len {
-        return Err(WireFault {
-            kind: WireKind::Truncated,
-            at: place(end, bytes),
-        });
+        return Err(fault_at(WireKind::Truncated, end, bytes));
     }
     let (payload, rest) = rest.split_at(len as usize);
     Ok((made(end, tag, len, payload, rest), rest))
@@ -127,7 +122,10 @@ fn delimited_in(end: usize, tag: u32, bytes: &[u8]) -> Result<(Record<'_>, &[u8]
 
 #[tactic(auto, unfolding(crate::specs::Record::payload_in))]
 fn payload_in(end: usize, tag: u32, bytes: &[u8]) -> Result<(Record<'_>, &[u8]), WireFault>
-    ensures { Reads (λ x. (item_of x.0, x.1.now)) result (payload_in end tag bytes.now) }
+    requires inside { length bytes.now ≤ end }
+    ensures reads { Reads end (λ x. (item_of x.0, x.1.now)) result (payload_in tag bytes.now) }
+    ensures shorter { IfOk result (λ x. length x.1.now ≤ length bytes.now) }
+    ensures placed { IfOk result (λ x. IsPlaced end x.0 x.1.now) }
 {
     let wire = tag % 8;
     if wire == 0 {
@@ -145,7 +143,10 @@ fn payload_in(end: usize, tag: u32, bytes: &[u8]) -> Result<(Record<'_>, &[u8]),
 /// Reads the record at the front of bytes that end at the place `end`: the record, and the bytes behind it.
 #[tactic(auto, unfolding(crate::specs::Record::record_in))]
 pub fn record_in(end: usize, bytes: &[u8]) -> Result<(Record<'_>, &[u8]), WireFault>
-    ensures { Reads (λ x. (item_of x.0, x.1.now)) result (record_in end bytes.now) }
+    requires inside { length bytes.now ≤ end }
+    ensures reads { Reads end (λ x. (item_of x.0, x.1.now)) result (record_in bytes.now) }
+    ensures shorter { IfOk result (λ x. length x.1.now < length bytes.now) }
+    ensures placed { IfOk result (λ x. IsPlaced end x.0 x.1.now) }
 {
     let (tag, rest) = tag_in(end, bytes)?;
     payload_in(end, tag, rest)
@@ -178,13 +179,21 @@ pub fn next_record(bytes: &[u8], at: usize, end: usize) -> Result<Option<WireRec
     if at == end {
         return Ok(None);
     }
-    let (record, _) = record_in(end, &bytes[at..end])?;
-    Ok(Some(WireRecord {
+    let (record, rest) = record_in(end, &bytes[at..end])?;
+    Ok(Some(placed(end, &record, rest)))
+}
+
+/// A record by its places, where the bytes behind it end at the place `end`.
+fn placed(end: usize, record: &Record<'_>, rest: &[u8]) -> WireRecord
+    requires { IsPlaced end record.now rest.now }
+    ensures { result ≡ places end (item_of record.now, rest.now) }
+{
+    WireRecord {
         field: record.field,
         wire: record.wire,
         number: record.number,
         start: place(record.end, record.payload),
         len: record.payload.len(),
         next: record.end,
-    }))
+    }
 }

@@ -1,7 +1,7 @@
 //! Texts.
 ghost use Rattle.std.specs.Prelude.{◌≡◌, ◌↔◌, ◌++◌, [], length, IsTrue, IsUtf8, IsSome, IfSome, IfOk, OnOk, OnErr};
 
-use crate::{Bytes, Mem, Same, TryClone};
+use crate::{Bytes, Mem, TryClone};
 use std::alloc::Global;
 use std::marker::Model;
 
@@ -98,11 +98,5 @@ impl Text {
 impl TryClone for Text {
     fn try_clone(&self, alloc: Global) -> Mem<Text> {
         Text::copy_of(alloc, self.as_str())
-    }
-}
-
-impl Same for Text {
-    fn is_same(&self, other: &Text) -> bool {
-        self.as_bytes() == other.as_bytes()
     }
 }

@@ -1,28 +1,47 @@
 //! Varints (Protocol Buffers encoding guide, "Base 128 Varints").
 ghost use Rattle.std.specs.Prelude.{◌≡◌, ◌+◌, ◌*◌, ◌-◌, ◌%◌, ◌^◌, ◌<◌, ◌≤◌, ◌++◌, length, take, IfOk, OnOk, OnErr};
-ghost use Rattle.proto_wire.specs.Varint.{place, groups, varint_in, varint, groups_of};
-ghost use Rattle.proto_wire.specs.Reads.{Reads, Keeps};
+ghost use Rattle.proto_wire.specs.Varint.{groups, varint_in, varint, groups_of};
+ghost use Rattle.proto_wire.specs.Reads.{fault_before, Reads, Keeps};
 
 use crate::{Bytes, Mem, WireFault, WireKind};
 
 /// The place of the first of the bytes, which end at the place `end` of the whole input.
 pub fn place(end: usize, bytes: &[u8]) -> usize
-    ensures { result ≡ place end bytes.now }
+    requires inside { length bytes.now ≤ end }
+    ensures at { result ≡ end - length bytes.now }
+    ensures left { end - result ≡ length bytes.now }
+    ensures within { result ≤ end }
 {
-    end.saturating_sub(bytes.len())
+    end - bytes.len()
 }
 
-/// Reads the varint at the front: its number, modulo 2^64, and the bytes behind it.
+/// A fault of the item that begins with the first of the bytes, which end at the place `end`.
+pub fn fault_at(kind: WireKind, end: usize, bytes: &[u8]) -> WireFault
+    requires inside { length bytes.now ≤ end }
+    ensures is { fault_before end result ≡ record { kind = kind; left = length bytes.now } }
+    ensures within { result.at ≤ end }
+{
+    WireFault {
+        kind,
+        at: place(end, bytes),
+    }
+}
+
+/// Reads the varint at the front of bytes that end at the place `end`: its number, modulo 2^64, and the bytes behind it.
 #[tactic(auto, unfolding(crate::specs::Varint::varint_in))]
 pub fn varint_in(end: usize, bytes: &[u8]) -> Result<(u64, &[u8]), WireFault>
-    ensures { Reads (λ x. (x.0, x.1.now)) result (varint_in end bytes.now) }
+    requires inside { length bytes.now ≤ end }
+    ensures reads { Reads end (λ x. (x.0, x.1.now)) result (varint_in bytes.now) }
+    ensures shorter { IfOk result (λ x. length x.1.now < length bytes.now) }
 {
-    groups_in(place(end, bytes), 10, bytes)
+    groups_in(end, place(end, bytes), 10, bytes)
 }
 
 #[tactic(auto, unfolding(crate::specs::Varint::groups))]
-fn groups_in(at: usize, most: u32, bytes: &[u8]) -> Result<(u64, &[u8]), WireFault>
-    ensures { Reads (λ x. (x.0, x.1.now)) result (groups at most bytes.now) }
+fn groups_in(end: usize, at: usize, most: u32, bytes: &[u8]) -> Result<(u64, &[u8]), WireFault>
+    requires inside { at ≤ end }
+    ensures reads { Reads end (λ x. (x.0, x.1.now)) result (groups (end - at) most bytes.now) }
+    ensures shorter { IfOk result (λ x. length x.1.now < length bytes.now) }
 {
     if most == 0 {
         return Err(WireFault {
@@ -39,13 +58,14 @@ fn groups_in(at: usize, most: u32, bytes: &[u8]) -> Result<(u64, &[u8]), WireFau
             if *byte < 128 {
                 return Ok((u64::from(*byte), rest));
             }
-            let (high, rest) = groups_in(at, most - 1, rest)?;
-            Ok((joined(*byte, high), rest))
+            let (high, rest) = groups_in(end, at, most - 1, rest)?;
+            Ok((with_group(*byte, high), rest))
         }
     }
 }
 
-fn joined(byte: u8, high: u64) -> u64
+/// The number of a group with its high bit, and of the groups behind it.
+fn with_group(byte: u8, high: u64) -> u64
     requires { 128 ≤ byte }
     ensures { result ≡ (byte - 128 + 128 * high) % 2 ^ 64 }
 {
