@@ -2,3 +2,4 @@ pub mod Fit
 pub mod Scans
 pub mod Again
 pub mod RoundTrip
+pub mod LastScalar

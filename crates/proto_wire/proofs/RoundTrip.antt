@@ -10,6 +10,7 @@ use Rattle.std.proofs.lemmas.Bool.{eqb-true, ltb-true}
 use Rattle.std.proofs.lemmas.Bool.Decides.{nat_tests}
 use Rattle.proto_wire.specs.Varint.{ItemFault, ◌>>=◌}
 use Rattle.proto_wire.specs.Record.{Item, is_wire, record_in, number_record, bytes_record, four_record, eight_record}
+use Rattle.proto_wire.specs.Places.{located}
 use Rattle.proto_wire.specs.Message.{Row, belongs, accepted, value_in, spelling, fit, text_of, int_of, long_of, bool_of, short_of, joined, entered, appended, spelled_bytes, spelled_number, spelled_bool, spelled_signed, spelled_four, spelled_eight, spelled_choice, spelled_message, spelled_messages, fits_signed, fit_choice, fit_message, fit_messages, scalars, texts, bytes, bools, enums, longs, numbers, fours, eights, messages, lists, members, choices}
 use Rattle.proto_wire.proofs.Scans.{value_in-end, value_in-accepted, record_in-fronts, fronts-length}
 use Rattle.proto_wire.proofs.Again.{IsTag, number_item, bytes_item, four_item, eight_item, number_record-again, bytes_record-again, four_record-again, eight_record-again, same}
@@ -91,11 +92,11 @@ enter-all least (row ∷ rows) up =
 -- ---- what a row's spelling does
 
 -- The spelling of the row's field gives it to a value in which it stands at its default: `copy value into` is the second with this field of the first, and
--- `clear` puts the default there.
+-- `clear value into` the second with the default there, as far as that has to be there to give it the field of the first.
 pub record Copies {M : Type 0} (row : Row M) : Type 0 where
   pub copy : M → M → M
-  pub clear : M → M
-  pub reads : (rows : List (Row M)) → EntersBy rows row → (value into : M) → row.fits value ≡ true → length (row.spells value) < 2 ^ 64 → clear into ≡ into
+  pub clear : M → M → M
+  pub reads : (rows : List (Row M)) → EntersBy rows row → (value into : M) → row.fits value ≡ true → length (row.spells value) < 2 ^ 64 → clear value into ≡ into
       → Steps rows into (copy value into) (row.spells value)
 
 abbrev pub AllCopies : {M : Type 0} → List (Row M) → Type 0
@@ -105,7 +106,7 @@ AllCopies (row ∷ rows) = Copies row × AllCopies rows
 -- field by field the value stands at the default before the field is copied, and with all of them it is the one that was copied
 abbrev pub Fills : {M : Type 0} → (rows : List (Row M)) → AllCopies rows → M → M → Type 0
 Fills [] copies value into = into ≡ value
-Fills (row ∷ rows) copies value into = (copies.0.clear into ≡ into) × Fills rows copies.1 value (copies.0.copy value into)
+Fills (row ∷ rows) copies value into = (copies.0.clear value into ≡ into) × Fills rows copies.1 value (copies.0.copy value into)
 
 rows-steps : {M : Type 0} (all rows : List (Row M)) → EnterBy all rows → (copies : AllCopies rows) (value into : M) → fit rows value ≡ true → length (spelling rows value) < 2 ^ 64
     → Fills rows copies value into → Steps all into value (spelling rows value)
@@ -124,6 +125,13 @@ IsAgain {M} blank rows = (value : M) → fit rows value ≡ true → length (spe
 pub again : {M : Type 0} (blank : M) (rows : List (Row M)) → ascends 0 rows ≡ true → (copies : AllCopies rows) → ((value : M) → Fills rows copies value blank) → IsAgain blank rows
 again blank rows up copies fills value fits short = steps-whole rows blank value (spelling rows value) (rows-steps rows rows (enter-all 0 rows up) copies value blank fits short (fills value))
 
+-- what was written is read again
+pub written-again : {M : Type 0} (blank : M) (rows : List (Row M)) → IsAgain blank rows → (value : M) (bytes : List ℕ) → bytes ≡ spelling rows value → fit rows value ≡ true → length bytes < 2 ^ 64
+    → located (length bytes) (value_in rows blank bytes) ≡ Ok value
+written-again {M} blank rows is value bytes spelled fits short =
+    let P : List ℕ → Type 0 = λ s. length s < 2 ^ 64 → located (length s) (value_in rows blank s) ≡ Ok value in
+    subst P (sym spelled) (λ k. ap (located (length (spelling rows value))) (is value fits k)) short
+
 -- ---- one record
 
 -- the bytes are one record of this field, and it says this
@@ -137,7 +145,7 @@ one-steps : {M A : Type 0} (rows : List (Row M)) (field wire : ℕ) (reads : Ite
     → accepted rows into h.item ≡ Ok after → Steps rows into after spelled
 one-steps rows field wire reads spelled into after value h takes = steps-record rows into after spelled h.item h.read takes
 
-tag-of : (field wire : ℕ) → (ltb 0 field && ltb field 536870912) ≡ true → is_wire wire ≡ true → wire < 8 → IsTag field wire
+pub tag-of : (field wire : ℕ) → (ltb 0 field && ltb field 536870912) ≡ true → is_wire wire ≡ true → wire < 8 → IsTag field wire
 tag-of field wire h k l =
     let b = both (ltb 0 field) (ltb field 536870912) h in
     let least : 0 < field = ltb-true _ _ b.0 in
@@ -157,19 +165,19 @@ IsSpelled field wire reads default spelled value = ((value ≡ default) × (spel
 abbrev pub AreSpelled : {A : Type 0} → ℕ → ℕ → (Item → Result A ItemFault) → (ℕ → A → List ℕ) → (A → Bool) → A → Type 0
 AreSpelled {A} field wire reads spells fits default = (value : A) → fits value ≡ true → length (spells field value) < 2 ^ 64 → IsSpelled field wire reads default (spells field value) value
 
-scalars-copies : {M A : Type 0} (field wire : ℕ) (reads : Item → Result A ItemFault) (spells : ℕ → A → List ℕ) (fits : A → Bool) (default : A) (get : M → A) (put : M → A → M)
+pub scalars-step : {M A : Type 0} (rows : List (Row M)) (field wire : ℕ) (reads : Item → Result A ItemFault) (spells : ℕ → A → List ℕ) (fits : A → Bool) (default : A) (get : M → A) (put : M → A → M)
+    → EntersBy rows (scalars field wire reads spells fits get put) → (value : A) (into : M) (bytes : List ℕ) → put into default ≡ into → IsSpelled field wire reads default bytes value → Steps rows into (put into value) bytes
+scalars-step rows field wire reads spells fits default get put enters value into bytes clear (inl none) = steps-nil rows into (put into value) bytes (ap (put into) none.0 ∙ clear) none.1
+scalars-step {A = A} rows field wire reads spells fits default get put enters value into bytes clear (inr one) =
+    one-steps rows field wire reads bytes into (put into value) value one (enters into one.item one.belongs_there ∙ ap (λ (r : Result A ItemFault). r >>= λ new. Ok (put into new)) one.says)
+
+abbrev pub scalars-copies : {M A : Type 0} (field wire : ℕ) (reads : Item → Result A ItemFault) (spells : ℕ → A → List ℕ) (fits : A → Bool) (default : A) (get : M → A) (put : M → A → M)
     → AreSpelled field wire reads spells fits default → Copies (scalars field wire reads spells fits get put)
-scalars-copies {M} {A} field wire reads spells fits default get put spelled = record {
+scalars-copies field wire reads spells fits default get put spelled = record {
   copy = λ value into. put into (get value);
-  clear = λ into. put into default;
-  reads = λ rows enters value into fit short clear. step rows enters (get value) into (spells field (get value)) clear (spelled (get value) fit short);
+  clear = λ value into. put into default;
+  reads = λ rows enters value into fit short clear. scalars-step rows field wire reads spells fits default get put enters (get value) into (spells field (get value)) clear (spelled (get value) fit short);
 }
-  where
-    step : (rows : List (Row M)) → EntersBy rows (scalars field wire reads spells fits get put) → (value : A) (into : M) (bytes : List ℕ) → put into default ≡ into → IsSpelled field wire reads default bytes value
-        → Steps rows into (put into value) bytes
-    step rows enters value into bytes clear (inl none) = steps-nil rows into (put into value) bytes (ap (put into) none.0 ∙ clear) none.1
-    step rows enters value into bytes clear (inr one) =
-        one-steps rows field wire reads bytes into (put into value) value one (enters into one.item one.belongs_there ∙ ap (λ (r : Result A ItemFault). r >>= λ new. Ok (put into new)) one.says)
 
 payload-shorter : (field : ℕ) (payload : List ℕ) → length payload ≤ length (bytes_record field payload)
 payload-shorter field payload = simp length-append (omega arith)
@@ -195,17 +203,17 @@ number-one field reads number value tag short says = record {
 IsFieldNumber : ℕ → Type 0
 IsFieldNumber field = (ltb 0 field && ltb field 536870912) ≡ true
 
-texts-spelled : (field : ℕ) → IsTag field 2 → AreSpelled field 2 text_of spelled_bytes is_utf8 []
+pub texts-spelled : (field : ℕ) → IsTag field 2 → AreSpelled field 2 text_of spelled_bytes is_utf8 []
 unfolding spelled_bytes text_of
 texts-spelled field tag [] utf8 short = inl (refl, refl)
 texts-spelled field tag (b ∷ text) utf8 short = inr (bytes-one field text_of (b ∷ text) (b ∷ text) tag short (rw utf8 refl))
 
-bytes-spelled : (field : ℕ) → IsTag field 2 → AreSpelled field 2 (λ item. Ok item.payload) spelled_bytes (λ payload. true) []
+pub bytes-spelled : (field : ℕ) → IsTag field 2 → AreSpelled field 2 (λ item. Ok item.payload) spelled_bytes (λ payload. true) []
 unfolding spelled_bytes
 bytes-spelled field tag [] fits short = inl (refl, refl)
 bytes-spelled field tag (b ∷ payload) fits short = inr (bytes-one field (λ item. Ok item.payload) (b ∷ payload) (b ∷ payload) tag short refl)
 
-bools-spelled : (field : ℕ) → IsTag field 0 → AreSpelled field 0 (λ item. Ok (bool_of item)) spelled_bool (λ flag. true) false
+pub bools-spelled : (field : ℕ) → IsTag field 0 → AreSpelled field 0 (λ item. Ok (bool_of item)) spelled_bool (λ flag. true) false
 unfolding spelled_bool bool_of
 bools-spelled field tag false fits short = inl (refl, refl)
 bools-spelled field tag true fits short = inr (number-one field (λ item. Ok (bool_of item)) 1 true tag (omega arith) refl)
@@ -220,7 +228,7 @@ number-spelled field reads default value number tag short none says = step (eqb 
     step true e = inl (none (eqb-true number 0 e), refl)
     step false e = inr (number-one field reads number value tag short says)
 
-numbers-spelled : (field : ℕ) → IsTag field 0 → AreSpelled field 0 (λ item. Ok item.number) spelled_number (λ number. nat_lt number (2 ^ 64)) 0
+pub numbers-spelled : (field : ℕ) → IsTag field 0 → AreSpelled field 0 (λ item. Ok item.number) spelled_number (λ number. nat_lt number (2 ^ 64)) 0
 numbers-spelled field tag number fits short = number-spelled field (λ item. Ok item.number) 0 number number tag (ltb-true _ _ fits) (λ e. e) refl
 
 signed-fits : (w : Width) (bits : ℕ) (z : ℤ) → bits ≡ hbits w → fits_signed bits z ≡ true → FitsSigned w z
@@ -267,12 +275,12 @@ unfolding fits_signed
 low-bits (pos n) h = let lt : n < 2 ^ 31 = ltb-true _ _ h in omega arith
 low-bits (negsuc n) h = let lt : n < 2 ^ 31 = ltb-true _ _ h in omega arith
 
-longs-spelled : (field : ℕ) → IsTag field 0 → AreSpelled field 0 (λ item. Ok (long_of item)) spelled_signed (fits_signed 63) (pos 0)
+pub longs-spelled : (field : ℕ) → IsTag field 0 → AreSpelled field 0 (λ item. Ok (long_of item)) spelled_signed (fits_signed 63) (pos 0)
 unfolding spelled_signed long_of
 longs-spelled field tag z fits short =
     number-spelled field (λ item. Ok (cast_signed w64 item.number)) (pos 0) z (cast_unsigned w64 z) tag (long-below z fits) (long-zero z fits) (ap Ok (long-again z fits))
 
-enums-spelled : (field : ℕ) → IsTag field 0 → AreSpelled field 0 (λ item. Ok (int_of item)) spelled_signed (fits_signed 31) (pos 0)
+pub enums-spelled : (field : ℕ) → IsTag field 0 → AreSpelled field 0 (λ item. Ok (int_of item)) spelled_signed (fits_signed 31) (pos 0)
 unfolding spelled_signed int_of
 enums-spelled field tag z fits short =
     let long = int-is_long z fits in
@@ -282,7 +290,7 @@ enums-spelled field tag z fits short =
 short-low : (n : ℕ) → n < 2 ^ 32 → n % 2 ^ 32 ≡ n
 short-low n h = omega arith
 
-fours-spelled : (field : ℕ) → IsTag field 5 → AreSpelled field 5 (λ item. Ok (int_of item)) spelled_four (fits_signed 31) (pos 0)
+pub fours-spelled : (field : ℕ) → IsTag field 5 → AreSpelled field 5 (λ item. Ok (int_of item)) spelled_four (fits_signed 31) (pos 0)
 unfolding spelled_four int_of
 fours-spelled field tag z fits short = step (eqb (cast_unsigned w32 z) 0) refl
   where
@@ -295,7 +303,7 @@ fours-spelled field tag z fits short = step (eqb (cast_unsigned w32 z) 0) refl
       says = ap (λ (n : ℕ). Ok (cast_signed w32 n)) (short-low (cast_unsigned w32 z) (int-below z fits)) ∙ ap Ok (int-again z fits);
     })
 
-eights-spelled : (field : ℕ) → IsTag field 1 → AreSpelled field 1 (λ item. Ok (long_of item)) spelled_eight (fits_signed 63) (pos 0)
+pub eights-spelled : (field : ℕ) → IsTag field 1 → AreSpelled field 1 (λ item. Ok (long_of item)) spelled_eight (fits_signed 63) (pos 0)
 unfolding spelled_eight long_of
 eights-spelled field tag z fits short = step (eqb (cast_unsigned w64 z) 0) refl
   where
@@ -308,28 +316,28 @@ eights-spelled field tag z fits short = step (eqb (cast_unsigned w64 z) 0) refl
       says = ap Ok (long-again z fits);
     })
 
-pub texts-copies : {M : Type 0} (field : ℕ) → (ltb 0 field && ltb field 536870912) ≡ true → (get : M → List ℕ) (put : M → List ℕ → M) → Copies (texts field get put)
+abbrev pub texts-copies : {M : Type 0} (field : ℕ) → (ltb 0 field && ltb field 536870912) ≡ true → (get : M → List ℕ) (put : M → List ℕ → M) → Copies (texts field get put)
 texts-copies field h get put = scalars-copies field 2 text_of spelled_bytes is_utf8 [] get put (texts-spelled field (tag-of field 2 h refl (omega arith)))
 
-pub bytes-copies : {M : Type 0} (field : ℕ) → (ltb 0 field && ltb field 536870912) ≡ true → (get : M → List ℕ) (put : M → List ℕ → M) → Copies (bytes field get put)
+abbrev pub bytes-copies : {M : Type 0} (field : ℕ) → (ltb 0 field && ltb field 536870912) ≡ true → (get : M → List ℕ) (put : M → List ℕ → M) → Copies (bytes field get put)
 bytes-copies field h get put = scalars-copies field 2 (λ item. Ok item.payload) spelled_bytes (λ payload. true) [] get put (bytes-spelled field (tag-of field 2 h refl (omega arith)))
 
-pub bools-copies : {M : Type 0} (field : ℕ) → (ltb 0 field && ltb field 536870912) ≡ true → (get : M → Bool) (put : M → Bool → M) → Copies (bools field get put)
+abbrev pub bools-copies : {M : Type 0} (field : ℕ) → (ltb 0 field && ltb field 536870912) ≡ true → (get : M → Bool) (put : M → Bool → M) → Copies (bools field get put)
 bools-copies field h get put = scalars-copies field 0 (λ item. Ok (bool_of item)) spelled_bool (λ flag. true) false get put (bools-spelled field (tag-of field 0 h refl (omega arith)))
 
-pub enums-copies : {M : Type 0} (field : ℕ) → (ltb 0 field && ltb field 536870912) ≡ true → (get : M → ℤ) (put : M → ℤ → M) → Copies (enums field get put)
+abbrev pub enums-copies : {M : Type 0} (field : ℕ) → (ltb 0 field && ltb field 536870912) ≡ true → (get : M → ℤ) (put : M → ℤ → M) → Copies (enums field get put)
 enums-copies field h get put = scalars-copies field 0 (λ item. Ok (int_of item)) spelled_signed (fits_signed 31) (pos 0) get put (enums-spelled field (tag-of field 0 h refl (omega arith)))
 
-pub longs-copies : {M : Type 0} (field : ℕ) → (ltb 0 field && ltb field 536870912) ≡ true → (get : M → ℤ) (put : M → ℤ → M) → Copies (longs field get put)
+abbrev pub longs-copies : {M : Type 0} (field : ℕ) → (ltb 0 field && ltb field 536870912) ≡ true → (get : M → ℤ) (put : M → ℤ → M) → Copies (longs field get put)
 longs-copies field h get put = scalars-copies field 0 (λ item. Ok (long_of item)) spelled_signed (fits_signed 63) (pos 0) get put (longs-spelled field (tag-of field 0 h refl (omega arith)))
 
-pub numbers-copies : {M : Type 0} (field : ℕ) → (ltb 0 field && ltb field 536870912) ≡ true → (get : M → ℕ) (put : M → ℕ → M) → Copies (numbers field get put)
+abbrev pub numbers-copies : {M : Type 0} (field : ℕ) → (ltb 0 field && ltb field 536870912) ≡ true → (get : M → ℕ) (put : M → ℕ → M) → Copies (numbers field get put)
 numbers-copies field h get put = scalars-copies field 0 (λ item. Ok item.number) spelled_number (λ number. nat_lt number (2 ^ 64)) 0 get put (numbers-spelled field (tag-of field 0 h refl (omega arith)))
 
-pub fours-copies : {M : Type 0} (field : ℕ) → (ltb 0 field && ltb field 536870912) ≡ true → (get : M → ℤ) (put : M → ℤ → M) → Copies (fours field get put)
+abbrev pub fours-copies : {M : Type 0} (field : ℕ) → (ltb 0 field && ltb field 536870912) ≡ true → (get : M → ℤ) (put : M → ℤ → M) → Copies (fours field get put)
 fours-copies field h get put = scalars-copies field 5 (λ item. Ok (int_of item)) spelled_four (fits_signed 31) (pos 0) get put (fours-spelled field (tag-of field 5 h refl (omega arith)))
 
-pub eights-copies : {M : Type 0} (field : ℕ) → (ltb 0 field && ltb field 536870912) ≡ true → (get : M → ℤ) (put : M → ℤ → M) → Copies (eights field get put)
+abbrev pub eights-copies : {M : Type 0} (field : ℕ) → (ltb 0 field && ltb field 536870912) ≡ true → (get : M → ℤ) (put : M → ℤ → M) → Copies (eights field get put)
 eights-copies field h get put = scalars-copies field 1 (λ item. Ok (long_of item)) spelled_eight (fits_signed 63) (pos 0) get put (eights-spelled field (tag-of field 1 h refl (omega arith)))
 
 -- ---- messages
@@ -340,90 +348,98 @@ message-one : {N : Type 0} (field : ℕ) (blank : N) (inner : List (Row N)) (val
 message-one field blank inner value again tag fits short =
     bytes-one field (λ item. value_in inner blank item.payload) (spelling inner value) value tag short (again value fits (omega (arith, payload-shorter field (spelling inner value))))
 
-pub messages-copies : {M N : Type 0} (field : ℕ) → (ltb 0 field && ltb field 536870912) ≡ true → (blank : N) (inner : List (Row N)) → IsAgain blank inner → (get : M → Option N) (put : M → Option N → M)
-    → ((into : M) → get (put into None) ≡ None) → Copies (messages blank inner field get put)
+pub messages-step : {M N : Type 0} (rows : List (Row M)) (field : ℕ) → IsTag field 2 → (blank : N) (inner : List (Row N)) → IsAgain blank inner → (get : M → Option N) (put : M → Option N → M)
+    → ((into : M) → get (put into None) ≡ None) → EntersBy rows (messages blank inner field get put) → (value : Option N) (into : M) → fit_message (fit inner) value ≡ true
+    → length (spelled_message (spelling inner) field value) < 2 ^ 64 → put into None ≡ into → Steps rows into (put into value) (spelled_message (spelling inner) field value)
 unfolding spelled_message fit_message entered joined
-messages-copies {M} {N} field h blank inner again get put lens = record {
+messages-step rows field tag blank inner again get put lens enters None into fits short clear = steps-nil rows into (put into None) [] clear refl
+messages-step rows field tag blank inner again get put lens enters (Some value) into fits short clear =
+    let one = message-one field blank inner value again tag fits short in
+    let none : get into ≡ None = ap get (sym clear) ∙ lens into in
+    one-steps rows field 2 (λ item. value_in inner blank item.payload) _ into (put into (Some value)) value one
+    (enters into one.item one.belongs_there ∙ rw (none, one.says) refl)
+
+abbrev pub messages-copies : {M N : Type 0} (field : ℕ) → (ltb 0 field && ltb field 536870912) ≡ true → (blank : N) (inner : List (Row N)) → IsAgain blank inner → (get : M → Option N) (put : M → Option N → M)
+    → ((into : M) → get (put into None) ≡ None) → Copies (messages blank inner field get put)
+messages-copies field h blank inner again get put lens = record {
   copy = λ value into. put into (get value);
-  clear = λ into. put into None;
-  reads = λ rows enters value into fits short clear. step rows enters (get value) into fits short clear;
+  clear = λ value into. put into None;
+  reads = λ rows enters value into fits short clear. messages-step rows field (tag-of field 2 h refl (omega arith)) blank inner again get put lens enters (get value) into fits short clear;
 }
-  where
-    step : (rows : List (Row M)) → EntersBy rows (messages blank inner field get put) → (value : Option N) (into : M) → fit_message (fit inner) value ≡ true
-        → length (spelled_message (spelling inner) field value) < 2 ^ 64 → put into None ≡ into → Steps rows into (put into value) (spelled_message (spelling inner) field value)
-    step rows enters None into fits short clear = steps-nil rows into (put into None) [] clear refl
-    step rows enters (Some value) into fits short clear =
-        let one = message-one field blank inner value again (tag-of field 2 h refl (omega arith)) fits short in
-        let none : get into ≡ None = ap get (sym clear) ∙ lens into in
-        one-steps rows field 2 (λ item. value_in inner blank item.payload) _ into (put into (Some value)) value one
-        (enters into one.item one.belongs_there ∙ rw (none, one.says) refl)
 
-pub members-copies : {M N : Type 0} (field : ℕ) → (ltb 0 field && ltb field 536870912) ≡ true → (blank : N) (inner : List (Row N)) → IsAgain blank inner → (get : M → Option N) (put : M → N → M) (none : M)
-    → get none ≡ None → Copies (members blank inner field get put)
+-- a member that is there is put, and takes the place of another one
+abbrev pub with_some : {M N : Type 0} → (M → N → M) → Option N → M → M
+with_some put None into = into
+with_some put (Some value) into = put into value
+
+-- where there is such a member to be put, the first, else the second
+abbrev pub if_some : {M N : Type 0} → Option N → M → M → M
+if_some None none into = into
+if_some (Some value) none into = none
+
+pub members-step : {M N : Type 0} (rows : List (Row M)) (field : ℕ) → IsTag field 2 → (blank : N) (inner : List (Row N)) → IsAgain blank inner → (get : M → Option N) (put : M → N → M) (none : M)
+    → get none ≡ None → EntersBy rows (members blank inner field get put) → (value : Option N) (into : M) → fit_message (fit inner) value ≡ true
+    → length (spelled_message (spelling inner) field value) < 2 ^ 64 → if_some value none into ≡ into → Steps rows into (with_some put value into) (spelled_message (spelling inner) field value)
 unfolding spelled_message fit_message joined
-members-copies {M} {N} field h blank inner again get put none lens = record {
-  copy = λ value into. with_member (get value) into;
-  clear = λ into. none;
-  reads = λ rows enters value into fits short clear. step rows enters (get value) into fits short clear;
-}
-  where
-    with_member : Option N → M → M
-    with_member None into = into
-    with_member (Some value) into = put into value
-    step : (rows : List (Row M)) → EntersBy rows (members blank inner field get put) → (value : Option N) (into : M) → fit_message (fit inner) value ≡ true
-        → length (spelled_message (spelling inner) field value) < 2 ^ 64 → none ≡ into → Steps rows into (with_member value into) (spelled_message (spelling inner) field value)
-    step rows enters None into fits short clear = steps-nil rows into into [] refl refl
-    step rows enters (Some value) into fits short clear =
-        let one = message-one field blank inner value again (tag-of field 2 h refl (omega arith)) fits short in
-        let free : get into ≡ None = ap get (sym clear) ∙ lens in
-        one-steps rows field 2 (λ item. value_in inner blank item.payload) _ into (put into value) value one
-        (enters into one.item one.belongs_there ∙ rw (free, one.says) refl)
+members-step rows field tag blank inner again get put none lens enters None into fits short clear = steps-nil rows into into [] refl refl
+members-step rows field tag blank inner again get put none lens enters (Some value) into fits short clear =
+    let one = message-one field blank inner value again tag fits short in
+    let free : get into ≡ None = ap get (sym clear) ∙ lens in
+    one-steps rows field 2 (λ item. value_in inner blank item.payload) _ into (put into value) value one
+    (enters into one.item one.belongs_there ∙ rw (free, one.says) refl)
 
-pub choices-copies : {M : Type 0} (field : ℕ) → (ltb 0 field && ltb field 536870912) ≡ true → (get : M → Option ℕ) (put : M → ℕ → M) → Copies (choices field get put)
-unfolding spelled_choice fit_choice short_of
-choices-copies {M} field h get put = record {
-  copy = λ value into. with_choice (get value) into;
-  clear = λ into. into;
-  reads = λ rows enters value into fits short clear. step rows enters (get value) into fits;
+abbrev pub members-copies : {M N : Type 0} (field : ℕ) → (ltb 0 field && ltb field 536870912) ≡ true → (blank : N) (inner : List (Row N)) → IsAgain blank inner → (get : M → Option N) (put : M → N → M) (none : M)
+    → get none ≡ None → Copies (members blank inner field get put)
+members-copies field h blank inner again get put none lens = record {
+  copy = λ value into. with_some put (get value) into;
+  clear = λ value into. if_some (get value) none into;
+  reads = λ rows enters value into fits short clear. members-step rows field (tag-of field 2 h refl (omega arith)) blank inner again get put none lens enters (get value) into fits short clear;
 }
-  where
-    with_choice : Option ℕ → M → M
-    with_choice None into = into
-    with_choice (Some number) into = put into number
-    step : (rows : List (Row M)) → EntersBy rows (choices field get put) → (value : Option ℕ) (into : M) → fit_choice value ≡ true → Steps rows into (with_choice value into) (spelled_choice field value)
-    step rows enters None into fits = steps-nil rows into into [] refl refl
-    step rows enters (Some number) into fits =
-        let low : number < 2 ^ 32 = ltb-true _ _ fits in
-        let one = number-one field short_of number number (tag-of field 0 h refl (omega arith)) (omega arith) (rw fits refl) in
-        one-steps rows field 0 short_of _ into (put into number) number one
-        (enters into one.item one.belongs_there ∙ ap (λ (r : Result ℕ ItemFault). r >>= λ new. Ok (put into new)) one.says)
+
+pub choices-step : {M : Type 0} (rows : List (Row M)) (field : ℕ) → IsTag field 0 → (get : M → Option ℕ) (put : M → ℕ → M) → EntersBy rows (choices field get put)
+    → (value : Option ℕ) (into : M) → fit_choice value ≡ true → Steps rows into (with_some put value into) (spelled_choice field value)
+unfolding spelled_choice fit_choice short_of
+choices-step rows field tag get put enters None into fits = steps-nil rows into into [] refl refl
+choices-step rows field tag get put enters (Some number) into fits =
+    let low : number < 2 ^ 32 = ltb-true _ _ fits in
+    let one = number-one field short_of number number tag (omega arith) (rw fits refl) in
+    one-steps rows field 0 short_of _ into (put into number) number one
+    (enters into one.item one.belongs_there ∙ ap (λ (r : Result ℕ ItemFault). r >>= λ new. Ok (put into new)) one.says)
+
+abbrev pub choices-copies : {M : Type 0} (field : ℕ) → (ltb 0 field && ltb field 536870912) ≡ true → (get : M → Option ℕ) (put : M → ℕ → M) → Copies (choices field get put)
+choices-copies field h get put = record {
+  copy = λ value into. with_some put (get value) into;
+  clear = λ value into. into;
+  reads = λ rows enters value into fits short clear. choices-step rows field (tag-of field 0 h refl (omega arith)) get put enters (get value) into fits;
+}
 
 -- the field of a list is there again after it was put, and what is put last stands
 pub record IsListField {M N : Type 0} (get : M → List N) (put : M → List N → M) : Type 0 where
   pub there : (into : M) (values : List N) → get (put into values) ≡ values
   pub last : (into : M) (values others : List N) → put (put into values) others ≡ put into others
 
-pub lists-copies : {M N : Type 0} (field : ℕ) → (ltb 0 field && ltb field 536870912) ≡ true → (blank : N) (inner : List (Row N)) → IsAgain blank inner → (get : M → List N) (put : M → List N → M)
-    → IsListField get put → Copies (lists blank inner field get put)
+pub lists-step : {M N : Type 0} (rows : List (Row M)) (field : ℕ) → IsTag field 2 → (blank : N) (inner : List (Row N)) → IsAgain blank inner → (get : M → List N) (put : M → List N → M)
+    → IsListField get put → EntersBy rows (lists blank inner field get put) → (front values : List N) (into : M) → fit_messages (fit inner) values ≡ true
+    → length (spelled_messages (spelling inner) field values) < 2 ^ 64 → Steps rows (put into front) (put into (front ++ values)) (spelled_messages (spelling inner) field values)
 unfolding spelled_messages fit_messages appended
-lists-copies {M} {N} field h blank inner again get put lens = record {
+lists-step rows field tag blank inner again get put lens enters front [] into fits short = steps-nil rows (put into front) (put into (front ++ [])) [] (ap (put into) (append-nil front)) refl
+lists-step {N = N} rows field tag blank inner again get put lens enters front (value ∷ values) into fits short =
+    let f = both (fit inner value) (fit_messages (fit inner) values) fits in
+    let len = length-append (bytes_record field (spelling inner value)) (spelled_messages (spelling inner) field values) in
+    let one = message-one field blank inner value again tag f.0 (omega arith) in
+    let next : List N = front ++ value ∷ [] in
+    let first = one-steps rows field 2 (λ item. value_in inner blank item.payload) _ (put into front) (put into next) value one
+          (enters (put into front) one.item one.belongs_there ∙ rw (lens.there into front, one.says, lens.last into front next) refl) in
+    let second = lists-step rows field tag blank inner again get put lens enters next values into f.1 (omega arith) in
+    let P : List N → Type 0 = λ vs. Steps rows (put into front) (put into vs) (bytes_record field (spelling inner value) ++ spelled_messages (spelling inner) field values) in
+    subst P (append_assoc front (value ∷ []) values) (steps-then rows (put into front) (put into next) (put into (next ++ values)) _ _ first second)
+
+abbrev pub lists-copies : {M N : Type 0} (field : ℕ) → (ltb 0 field && ltb field 536870912) ≡ true → (blank : N) (inner : List (Row N)) → IsAgain blank inner → (get : M → List N) (put : M → List N → M)
+    → IsListField get put → Copies (lists blank inner field get put)
+lists-copies {M} field h blank inner again get put lens = record {
   copy = λ value into. put into (get value);
-  clear = λ into. put into [];
+  clear = λ value into. put into [];
   reads = λ rows enters value into fits short clear.
       let P : M → Type 0 = λ m. Steps rows m (put into (get value)) (spelled_messages (spelling inner) field (get value)) in
-      subst P clear (more rows enters [] (get value) into fits short);
+      subst P clear (lists-step rows field (tag-of field 2 h refl (omega arith)) blank inner again get put lens enters [] (get value) into fits short);
 }
-  where
-    more : (rows : List (Row M)) → EntersBy rows (lists blank inner field get put) → (front values : List N) (into : M) → fit_messages (fit inner) values ≡ true
-        → length (spelled_messages (spelling inner) field values) < 2 ^ 64 → Steps rows (put into front) (put into (front ++ values)) (spelled_messages (spelling inner) field values)
-    more rows enters front [] into fits short = steps-nil rows (put into front) (put into (front ++ [])) [] (ap (put into) (append-nil front)) refl
-    more rows enters front (value ∷ values) into fits short =
-        let f = both (fit inner value) (fit_messages (fit inner) values) fits in
-        let len = length-append (bytes_record field (spelling inner value)) (spelled_messages (spelling inner) field values) in
-        let one = message-one field blank inner value again (tag-of field 2 h refl (omega arith)) f.0 (omega arith) in
-        let next : List N = front ++ value ∷ [] in
-        let first = one-steps rows field 2 (λ item. value_in inner blank item.payload) _ (put into front) (put into next) value one
-              (enters (put into front) one.item one.belongs_there ∙ rw (lens.there into front, one.says, lens.last into front next) refl) in
-        let second = more rows enters next values into f.1 (omega arith) in
-        let P : List N → Type 0 = λ vs. Steps rows (put into front) (put into vs) (bytes_record field (spelling inner value) ++ spelled_messages (spelling inner) field values) in
-        subst P (append_assoc front (value ∷ []) values) (steps-then rows (put into front) (put into next) (put into (next ++ values)) _ _ first second)

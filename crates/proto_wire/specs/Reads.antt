@@ -24,14 +24,14 @@ FailsWith end OutOfMemory read = Unit {0}
 FailsWith end (Wire e) read = FailsAt end e read
 
 -- the same for an answer for which memory may run out
-abbrev pub ReadsOr : {X Y : Type 0} → ℕ → (X → Y) → Result X DecodeFault → Result Y ItemFault → Type 0
-ReadsOr end view (Ok x) read = read ≡ Ok (view x)
-ReadsOr end view (Err e) read = FailsWith end e read
+abbrev pub ReadsOrAt : {X Y : Type 0} → ℕ → (X → Y) → Result X DecodeFault → Result Y ItemFault → Type 0
+ReadsOrAt end view (Ok x) read = read ≡ Ok (view x)
+ReadsOrAt end view (Err e) read = FailsWith end e read
 
 -- what stands after the call is what bytes that end at the place `end` say, unless it failed
-abbrev pub Changes : {X : Type 0} → ℕ → Result (Unit {0}) DecodeFault → X → Result X ItemFault → Type 0
-Changes end (Ok x) new read = read ≡ Ok new
-Changes end (Err e) new read = FailsWith end e read
+abbrev pub ChangesAt : {X : Type 0} → ℕ → Result (Unit {0}) DecodeFault → X → Result X ItemFault → Type 0
+ChangesAt end (Ok x) new read = read ≡ Ok new
+ChangesAt end (Err e) new read = FailsWith end e read
 
 -- the fault is the one that the whole input has, unless memory ran out
 abbrev pub Fails : {Y : Type 0} → DecodeFault → Result Y WireFault → Type 0
@@ -42,6 +42,11 @@ Fails (Wire e) read = read ≡ Err e
 abbrev pub Gives : {X Y : Type 0} → (X → Y) → Result X DecodeFault → Result Y WireFault → Type 0
 Gives view (Ok x) read = read ≡ Ok (view x)
 Gives view (Err e) read = Fails e read
+
+-- what stands after the call is what the whole input says, unless it failed
+abbrev pub Changes : {X : Type 0} → Result (Unit {0}) DecodeFault → X → Result X WireFault → Type 0
+Changes (Ok x) new read = read ≡ Ok new
+Changes (Err e) new read = Fails e read
 
 -- the bytes that stood still stand in front
 abbrev pub Keeps : List ℕ → List ℕ → Type 0

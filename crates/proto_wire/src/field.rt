@@ -1,7 +1,7 @@
 //! Fields: how a record enters a value, by the kind of its field.
 ghost use Rattle.std.specs.Prelude.{◌≡◌, ◌++◌, ◌∷◌, [], List, Some, None, Bool, IfOk, IfSome, IsSome, ◌↔◌, IsTrue, is_some};
 ghost use Rattle.std.specs.Str.{is_utf8};
-ghost use Rattle.proto_wire.specs.Reads.{ReadsOr, Changes};
+ghost use Rattle.proto_wire.specs.Reads.{ReadsOrAt, ChangesAt};
 ghost use Rattle.proto_wire.specs.Places.{item_of, IsInside};
 ghost use Rattle.proto_wire.specs.Message.{belongs, text_of, int_of, long_of, bool_of, short_of, joined, entered, appended};
 
@@ -23,7 +23,7 @@ impl Record<'_> {
     #[tactic(auto, unfolding(crate::specs::Message::text_of))]
     pub fn text(&self, alloc: Global) -> Result<Text, DecodeFault>
         requires inside { IsInside self.now }
-        ensures { ReadsOr self.now.end (λ text. text) result (text_of (item_of self.now)) }
+        ensures { ReadsOrAt self.now.end (λ text. text) result (text_of (item_of self.now)) }
     {
         match utf8(self.payload) {
             Some(text) => Ok(Text::copy_of(alloc, text)?),
@@ -70,7 +70,7 @@ impl Record<'_> {
     #[tactic(auto, unfolding(crate::specs::Message::short_of))]
     pub fn short(&self) -> Result<u32, DecodeFault>
         requires inside { IsInside self.now }
-        ensures { ReadsOr self.now.end (λ number. number) result (short_of (item_of self.now)) }
+        ensures { ReadsOrAt self.now.end (λ number. number) result (short_of (item_of self.now)) }
     {
         match u32::try_from(self.number) {
             Ok(number) => Ok(number),
@@ -86,7 +86,7 @@ impl Record<'_> {
     #[tactic(auto, unfolding(crate::specs::Message::joined))]
     pub fn message<M: Decode>(&self, alloc: Global, held: Option<M>) -> Result<M, DecodeFault>
         requires inside { IsInside self.now }
-        ensures { ReadsOr self.now.end (λ message. message) result (joined M.empty M.rows held (item_of self.now)) }
+        ensures { ReadsOrAt self.now.end (λ message. message) result (joined M.empty M.rows held (item_of self.now)) }
     {
         let mut message = match held {
             Some(message) => message,
@@ -100,7 +100,7 @@ impl Record<'_> {
     #[tactic(auto, unfolding(crate::specs::Message::entered))]
     pub fn enter<M: Decode>(&self, alloc: Global, slot: &mut Option<M>) -> Result<(), DecodeFault>
         requires inside { IsInside self.now }
-        ensures { Changes self.now.end result slot.new (entered M.empty M.rows slot.old (item_of self.now)) }
+        ensures { ChangesAt self.now.end result slot.new (entered M.empty M.rows slot.old (item_of self.now)) }
     {
         *slot = Some(self.message(alloc, slot.take())?);
         Ok(())
@@ -110,7 +110,7 @@ impl Record<'_> {
     #[tactic(auto, unfolding(crate::specs::Message::appended))]
     pub fn append_to<M: Decode>(&self, alloc: Global, list: &mut List<M>) -> Result<(), DecodeFault>
         requires inside { IsInside self.now }
-        ensures { Changes self.now.end result list.new (appended M.empty M.rows list.old (item_of self.now)) }
+        ensures { ChangesAt self.now.end result list.new (appended M.empty M.rows list.old (item_of self.now)) }
     {
         let mut next = M::blank(alloc);
         merge(alloc, &mut next, self.end, self.payload)?;

@@ -1,6 +1,6 @@
 //! Messages: how their records are read, one loop for all, and how they are written.
 ghost use Rattle.std.specs.Prelude.{◌≡◌, ◌≤◌, ◌<◌, ◌^◌, ◌++◌, ◌∷◌, [], ℕ, List, Bool, Some, None, length, IfOk, OnOk, true};
-ghost use Rattle.proto_wire.specs.Reads.{Changes, Gives, Reads};
+ghost use Rattle.proto_wire.specs.Reads.{ChangesAt, Gives, Reads};
 ghost use Rattle.proto_wire.specs.Places.{item_of, IsInside, located};
 ghost use Rattle.proto_wire.specs.Message.{Row, accepted, value_in, capped, last_record};
 ghost use Rattle.std.specs.Option.{option_map};
@@ -25,7 +25,7 @@ pub trait Decode: Drop {
     /// further use.
     fn accept(&mut self, alloc: Global, item: &Record<'_>) -> Result<(), DecodeFault>
         requires inside { IsInside item.now }
-        ensures changes { Changes item.now.end result self.new (accepted rows self.old (item_of item.now)) };
+        ensures changes { ChangesAt item.now.end result self.new (accepted rows self.old (item_of item.now)) };
 }
 
 /// A message that is written in its canonical spelling.
@@ -55,7 +55,7 @@ pub fn merge<M: Decode>(
     bytes: &[u8],
 ) -> Result<(), DecodeFault>
     requires inside { length bytes.now ≤ end }
-    ensures { Changes end result message.new (value_in M.rows message.old bytes.now) }
+    ensures { ChangesAt end result message.new (value_in M.rows message.old bytes.now) }
 {
     let mut rest = bytes;
     while !rest.is_empty() {
@@ -78,13 +78,13 @@ pub fn decoded<M: Decode>(alloc: Global, bytes: &[u8]) -> Result<M, DecodeFault>
     Ok(message)
 }
 
-/// The canonical spelling of a message.
+/// The canonical spelling of a message. Its room is asked for once.
 pub fn encoded<M: Encode>(alloc: Global, message: &M) -> Mem<Bytes>
     ensures spelled { IfOk result (λ bytes. bytes ≡ M.spells message.now) }
     ensures fits { OnOk result (M.fits message.now ≡ true) }
     ensures short { IfOk result (λ bytes. length bytes < 2 ^ 64) }
 {
-    let bytes = message.put(Bytes::new(alloc))?;
+    let bytes = message.put(Bytes::with_capacity(alloc, message.size() as usize)?)?;
     let _len = bytes.len();
     Ok(bytes)
 }

@@ -2,11 +2,12 @@
 use Rattle.std.proofs.Common.{◌≡◌, ℕ, zero, suc, ◌+◌, ◌-◌, ◌%◌, ◌≤◌, ◌<◌, ◌^◌, Bool, true, false, cond, ltb, eqb, List, [], ◌∷◌, ◌++◌, length, take, drop, Option, Some, None, Result, Ok, Err, arith, length-append, refl, sym, ap, subst, ◌∙◌}
 use Rattle.std.specs.Int.{Width, w32, w64, byte_len}
 use Rattle.proto_wire.specs.declared.fault.WireFault.{WireFault}
-use Rattle.proto_wire.specs.Varint.{◌>>=◌, varint_in, fault}
+use Rattle.proto_wire.specs.Varint.{ItemFault, ◌>>=◌, varint_in, fault}
 use Rattle.proto_wire.specs.declared.fault.WireKind.TheVariants.{Truncated}
 use Rattle.proto_wire.specs.Record.{Item, item, tag_in, fixed_in, delimited_in, number_in, payload_in, record_in}
-use Rattle.proto_wire.specs.Message.{Row, accepted, belongs, value_in, joined, appended, present}
-use Rattle.proto_wire.specs.Scans.{Shorter, varint_in-shorter, tag_in-shorter, value_in-end, value_in-step, value_in-broken}
+use Rattle.proto_wire.specs.Places.{located, present}
+use Rattle.proto_wire.specs.Message.{Row, accepted, before, belongs, value_in, joined, appended}
+use Rattle.proto_wire.proofs.Scans.{Leaves, fronts-length, varint_in-leaves, tag_in-leaves, value_in-end, value_in-step, value_in-broken}
 use Rattle.request_reply.specs.declared.answer.InvocationResponse.{InvocationResponse}
 use Rattle.request_reply.specs.declared.answer.IncompleteInvocationContext.{IncompleteInvocationContext}
 use Rattle.request_reply.specs.declared.answer.FromFunction.{FromFunction}
@@ -19,11 +20,11 @@ use Rattle.request_reply.specs.Spelling.{from_value}
 -- ---- a record's payload is a part of its bytes
 
 -- what was read holds no more than the bytes before what is left
-abbrev Holds : List ℕ → Result (Item × List ℕ) WireFault → Type 0
+abbrev Holds : List ℕ → Result (Item × List ℕ) ItemFault → Type 0
 Holds bytes (Ok read) = length read.0.payload + length read.1 ≤ length bytes
 Holds bytes (Err e) = Unit {0}
 
-Holds-cond : (bytes : List ℕ) (b : Bool) (r s : Result (Item × List ℕ) WireFault) → Holds bytes r → Holds bytes s → Holds bytes (cond b r s)
+Holds-cond : (bytes : List ℕ) (b : Bool) (r s : Result (Item × List ℕ) ItemFault) → Holds bytes r → Holds bytes s → Holds bytes (cond b r s)
 Holds-cond bytes true r s h k = h
 Holds-cond bytes false r s h k = k
 
@@ -32,83 +33,83 @@ split-at zero bytes = omega arith
 split-at (suc n) [] = omega arith
 split-at (suc n) (b ∷ bytes) = let h : length (take n bytes) + length (drop n bytes) ≤ length bytes = split-at n bytes in omega arith
 
-fixed-holds : (w : Width) (end tag : ℕ) (bytes : List ℕ) → Holds bytes (fixed_in w end tag bytes)
+fixed-holds : (w : Width) (tag : ℕ) (bytes : List ℕ) → Holds bytes (fixed_in w tag bytes)
 unfolding fixed_in
-fixed-holds w end tag bytes = Holds-cond bytes (ltb (length bytes) (byte_len w)) _ _ tt (split-at (byte_len w) bytes)
+fixed-holds w tag bytes = Holds-cond bytes (ltb (length bytes) (byte_len w)) _ _ tt (split-at (byte_len w) bytes)
 
 taken-short : (n : ℕ) (bytes : List ℕ) → length (take n bytes) ≤ n
 taken-short zero bytes = omega arith
 taken-short (suc n) [] = omega arith
 taken-short (suc n) (b ∷ bytes) = let h : length (take n bytes) ≤ n = taken-short n bytes in omega arith
 
-number-holds : (end tag : ℕ) (bytes : List ℕ) → Holds bytes (number_in end tag bytes)
+number-holds : (tag : ℕ) (bytes : List ℕ) → Holds bytes (number_in tag bytes)
 unfolding number_in
-number-holds end tag bytes = read (varint_in end bytes) (varint_in-shorter end bytes)
+number-holds tag bytes = read (varint_in bytes) (varint_in-leaves bytes)
   where
-    read : (r : Result (ℕ × List ℕ) WireFault) → Shorter bytes r → Holds bytes (r >>= λ number. Ok (item end tag number.0 bytes (length bytes - length number.1) number.1))
-    read (Ok number) h = let few : length (take (length bytes - length number.1) bytes) ≤ length bytes - length number.1 = taken-short (length bytes - length number.1) bytes in omega arith
+    read : (r : Result (ℕ × List ℕ) ItemFault) → Leaves 1 bytes r → Holds bytes (r >>= λ number. Ok (item tag number.0 (length bytes - length number.1) bytes number.1))
+    read (Ok number) h = let len = fronts-length h in let some = h.some in let few : length (take (length bytes - length number.1) bytes) ≤ length bytes - length number.1 = taken-short (length bytes - length number.1) bytes in omega arith
     read (Err e) h = tt
 
-delimited-holds : (end tag : ℕ) (bytes : List ℕ) → Holds bytes (delimited_in end tag bytes)
+delimited-holds : (tag : ℕ) (bytes : List ℕ) → Holds bytes (delimited_in tag bytes)
 unfolding delimited_in
-delimited-holds end tag bytes = read (varint_in end bytes) (varint_in-shorter end bytes)
+delimited-holds tag bytes = read (varint_in bytes) (varint_in-leaves bytes)
   where
     inside : (len : ℕ × List ℕ) → length len.1 < length bytes → length (take len.0 len.1) + length (drop len.0 len.1) ≤ length bytes
     inside len h = let parts : length (take len.0 len.1) + length (drop len.0 len.1) ≤ length len.1 = split-at len.0 len.1 in omega arith
 
-    read : (r : Result (ℕ × List ℕ) WireFault) → Shorter bytes r
-        → Holds bytes (r >>= λ len. cond (ltb (length len.1) len.0) (fault Truncated end bytes) (Ok (item end tag len.0 len.1 len.0 (drop len.0 len.1))))
-    read (Ok len) h = Holds-cond bytes (ltb (length len.1) len.0) _ _ tt (inside len h)
+    read : (r : Result (ℕ × List ℕ) ItemFault) → Leaves 1 bytes r
+        → Holds bytes (r >>= λ len. cond (ltb (length len.1) len.0) (fault Truncated bytes) (Ok (item tag len.0 len.0 len.1 (drop len.0 len.1))))
+    read (Ok len) h = let is = fronts-length h in let some = h.some in Holds-cond bytes (ltb (length len.1) len.0) _ _ tt (inside len (omega arith))
     read (Err e) h = tt
 
-payload-holds : (end tag : ℕ) (bytes : List ℕ) → Holds bytes (payload_in end tag bytes)
+payload-holds : (tag : ℕ) (bytes : List ℕ) → Holds bytes (payload_in tag bytes)
 unfolding payload_in
-payload-holds end tag bytes =
-    Holds-cond bytes (eqb (tag % 8) 0) _ _ (number-holds end tag bytes)
-    (Holds-cond bytes (eqb (tag % 8) 1) _ _ (fixed-holds w64 end tag bytes)
-    (Holds-cond bytes (eqb (tag % 8) 2) _ _ (delimited-holds end tag bytes) (fixed-holds w32 end tag bytes)))
+payload-holds tag bytes =
+    Holds-cond bytes (eqb (tag % 8) 0) _ _ (number-holds tag bytes)
+    (Holds-cond bytes (eqb (tag % 8) 1) _ _ (fixed-holds w64 tag bytes)
+    (Holds-cond bytes (eqb (tag % 8) 2) _ _ (delimited-holds tag bytes) (fixed-holds w32 tag bytes)))
 
 -- the tag takes a byte at least
-record-holds : (end : ℕ) (bytes : List ℕ) (read : Item × List ℕ) → record_in end bytes ≡ Ok read → length read.0.payload + length read.1 + 1 ≤ length bytes
+record-holds : (bytes : List ℕ) (read : Item × List ℕ) → record_in bytes ≡ Ok read → length read.0.payload + length read.1 + 1 ≤ length bytes
 unfolding record_in
-record-holds end bytes read e = by_tag (tag_in end bytes) (tag_in-shorter end bytes) e
+record-holds bytes read e = by_tag (tag_in bytes) (tag_in-leaves bytes) e
   where
-    by_payload : (rest : List ℕ) (r : Result (Item × List ℕ) WireFault) → length rest < length bytes → Holds rest r → r ≡ Ok read → length read.0.payload + length read.1 + 1 ≤ length bytes
-    by_payload rest (Ok own) shorter h e = let P = λ (r : Result (Item × List ℕ) WireFault). Holds rest r in let k : length read.0.payload + length read.1 ≤ length rest = subst P e h in omega arith
+    by_payload : (rest : List ℕ) (r : Result (Item × List ℕ) ItemFault) → length rest < length bytes → Holds rest r → r ≡ Ok read → length read.0.payload + length read.1 + 1 ≤ length bytes
+    by_payload rest (Ok own) shorter h e = let P = λ (r : Result (Item × List ℕ) ItemFault). Holds rest r in let k : length read.0.payload + length read.1 ≤ length rest = subst P e h in omega arith
     by_payload rest (Err f) shorter h e = absurd cc
 
-    by_tag : (r : Result (ℕ × List ℕ) WireFault) → Shorter bytes r → (r >>= λ tag. payload_in end tag.0 tag.1) ≡ Ok read → length read.0.payload + length read.1 + 1 ≤ length bytes
-    by_tag (Ok tag) shorter e = by_payload tag.1 (payload_in end tag.0 tag.1) shorter (payload-holds end tag.0 tag.1) e
+    by_tag : (r : Result (ℕ × List ℕ) ItemFault) → Leaves 1 bytes r → (r >>= λ tag. payload_in tag.0 tag.1) ≡ Ok read → length read.0.payload + length read.1 + 1 ≤ length bytes
+    by_tag (Ok tag) leaves e = let is = fronts-length leaves in let some = leaves.some in by_payload tag.1 (payload_in tag.0 tag.1) (omega arith) (payload-holds tag.0 tag.1) e
     by_tag (Err f) shorter e = absurd cc
 
 -- ---- a count that a record raises by no more than its payload and one
 
-ended : {M : Type 0} (count : M → ℕ) (value last : M) (r : Result M WireFault) → r ≡ Ok value → r ≡ Ok last → count last ≤ count value + 0
+ended : {M : Type 0} (count : M → ℕ) (value last : M) (r : Result M ItemFault) → r ≡ Ok value → r ≡ Ok last → count last ≤ count value + 0
 ended count value last r h e = let same : value ≡ last = cc in rw (← same) (omega arith)
 
 counted : {M : Type 0} (rows : List (Row M)) (count : M → ℕ)
     → ((value next : M) (item : Item) → accepted rows value item ≡ Ok next → count next ≤ count value + length item.payload + 1)
-    → (most end : ℕ) (bytes : List ℕ) (value last : M) → length bytes ≤ most → value_in rows value end bytes ≡ Ok last → count last ≤ count value + length bytes
-counted rows count raises most end [] value last short e = ended count value last (value_in rows value end []) (value_in-end rows value end [] refl) e
-counted rows count raises zero end (b ∷ bytes) value last short e = absurd (omega arith)
-counted {M} rows count raises (suc most) end (b ∷ bytes) value last short e = by_record (record_in end (b ∷ bytes)) refl (λ rest next small e. counted rows count raises most end rest next last small e)
+    → (most : ℕ) (bytes : List ℕ) (value last : M) → length bytes ≤ most → value_in rows value bytes ≡ Ok last → count last ≤ count value + length bytes
+counted rows count raises most [] value last short e = ended count value last (value_in rows value []) (value_in-end rows value [] refl) e
+counted rows count raises zero (b ∷ bytes) value last short e = absurd (omega arith)
+counted {M} rows count raises (suc most) (b ∷ bytes) value last short e = by_record (record_in (b ∷ bytes)) refl (λ rest next small e. counted rows count raises most rest next last small e)
   where
-    by_next : (read : Item × List ℕ) (r : Result M WireFault) → length read.0.payload + length read.1 + 1 ≤ length (b ∷ bytes)
-        → ((rest : List ℕ) (next : M) → length rest ≤ most → value_in rows next end rest ≡ Ok last → count last ≤ count next + length rest)
-        → accepted rows value read.0 ≡ r → (r >>= λ next. value_in rows next end read.1) ≡ Ok last → count last ≤ count value + length (b ∷ bytes)
+    by_next : (read : Item × List ℕ) (r : Result M ItemFault) → length read.0.payload + length read.1 + 1 ≤ length (b ∷ bytes)
+        → ((rest : List ℕ) (next : M) → length rest ≤ most → value_in rows next rest ≡ Ok last → count last ≤ count next + length rest)
+        → accepted rows value read.0 ≡ r → (before (length read.1) r >>= λ next. value_in rows next read.1) ≡ Ok last → count last ≤ count value + length (b ∷ bytes)
     by_next read (Ok next) holds later is e =
         let one : count next ≤ count value + length read.0.payload + 1 = raises value next read.0 is in
         let more : count last ≤ count next + length read.1 = later read.1 next (omega arith) e in
         omega arith
     by_next read (Err f) holds later is e = absurd cc
 
-    by_record : (r : Result (Item × List ℕ) WireFault) → record_in end (b ∷ bytes) ≡ r
-        → ((rest : List ℕ) (next : M) → length rest ≤ most → value_in rows next end rest ≡ Ok last → count last ≤ count next + length rest) → count last ≤ count value + length (b ∷ bytes)
-    by_record (Ok read) is later = by_next read (accepted rows value read.0) (record-holds end (b ∷ bytes) read is) later refl (sym (value_in-step rows value end (b ∷ bytes) read (omega arith) is) ∙ e)
-    by_record (Err f) is later = let broken : value_in rows value end (b ∷ bytes) ≡ Err f = value_in-broken rows value end (b ∷ bytes) f (omega arith) is in absurd cc
+    by_record : (r : Result (Item × List ℕ) ItemFault) → record_in (b ∷ bytes) ≡ r
+        → ((rest : List ℕ) (next : M) → length rest ≤ most → value_in rows next rest ≡ Ok last → count last ≤ count next + length rest) → count last ≤ count value + length (b ∷ bytes)
+    by_record (Ok read) is later = by_next read (accepted rows value read.0) (record-holds (b ∷ bytes) read is) later refl (sym (value_in-step rows value (b ∷ bytes) read (omega arith) is) ∙ e)
+    by_record (Err f) is later = let broken : value_in rows value (b ∷ bytes) ≡ Err f = value_in-broken rows value (b ∷ bytes) f (omega arith) is in absurd cc
 
 -- one of two, whichever the condition takes
-either : {M : Type 0} (P : Type 0) (b : Bool) (r s : Result M WireFault) (next : M) → (r ≡ Ok next → P) → (s ≡ Ok next → P) → cond b r s ≡ Ok next → P
+either : {M : Type 0} (P : Type 0) (b : Bool) (r s : Result M ItemFault) (next : M) → (r ≡ Ok next → P) → (s ≡ Ok next → P) → cond b r s ≡ Ok next → P
 either P true r s next h k e = h e
 either P false r s next h k e = k e
 
@@ -119,9 +120,9 @@ one-more : {N : Type 0} (blank : N) (rows : List (Row N)) (values : List N) (ite
     → ((x : N) → length (put (values ++ x ∷ [])).outgoing_egresses ≤ length value.outgoing_egresses + 1)
     → (appended blank rows values item >>= λ xs. Ok (put xs)) ≡ Ok next → length next.outgoing_egresses ≤ length value.outgoing_egresses + length item.payload + 1
 unfolding appended
-one-more {N} blank rows values item put value next few e = entered (value_in rows blank item.end item.payload) e
+one-more {N} blank rows values item put value next few e = entered (value_in rows blank item.payload) e
   where
-    entered : (r : Result N WireFault) → ((r >>= λ x. Ok (values ++ x ∷ [])) >>= λ xs. Ok (put xs)) ≡ Ok next → length next.outgoing_egresses ≤ length value.outgoing_egresses + length item.payload + 1
+    entered : (r : Result N ItemFault) → ((r >>= λ x. Ok (values ++ x ∷ [])) >>= λ xs. Ok (put xs)) ≡ Ok next → length next.outgoing_egresses ≤ length value.outgoing_egresses + length item.payload + 1
     entered (Ok x) e = let same : put (values ++ x ∷ []) ≡ next = cc in let k : length (put (values ++ x ∷ [])).outgoing_egresses ≤ length value.outgoing_egresses + 1 = few x in rw (← same) (omega arith)
     entered (Err f) e = absurd cc
 
@@ -137,8 +138,8 @@ egress-raises value next item e =
     Few : Type 0
     Few = length next.outgoing_egresses ≤ length value.outgoing_egresses + length item.payload + 1
 
-egresses-in : (end : ℕ) (bytes : List ℕ) (value last : InvocationResponse) → value_in response_rows value end bytes ≡ Ok last → length last.outgoing_egresses ≤ length value.outgoing_egresses + length bytes
-egresses-in end bytes value last e = counted response_rows (λ response. length response.outgoing_egresses) egress-raises (length bytes) end bytes value last (omega arith) e
+egresses-in : (bytes : List ℕ) (value last : InvocationResponse) → value_in response_rows value bytes ≡ Ok last → length last.outgoing_egresses ≤ length value.outgoing_egresses + length bytes
+egresses-in bytes value last e = counted response_rows (λ response. length response.outgoing_egresses) egress-raises (length bytes) bytes value last (omega arith) e
 
 -- ---- those of an answer
 
@@ -153,21 +154,21 @@ result-raises : (member : Option FromFunction) (next : FromRead) (item : Item) �
 unfolding joined response_of empty_response
 result-raises member next item e = by_member member e
   where
-    read-on : (value : InvocationResponse) (r : Result InvocationResponse WireFault) → value_in response_rows value item.end item.payload ≡ r → (r >>= λ response. Ok (record { member = Some (answers.Result response) })) ≡ Ok next
+    read-on : (value : InvocationResponse) (r : Result InvocationResponse ItemFault) → value_in response_rows value item.payload ≡ r → (r >>= λ response. Ok (record { member = Some (answers.Result response) })) ≡ Ok next
         → answer-egresses next.member ≤ length value.outgoing_egresses + length item.payload + 1
     read-on value (Ok response) is e =
         let same : record { member = Some (answers.Result response) } ≡ next = cc in
-        let k : length response.outgoing_egresses ≤ length value.outgoing_egresses + length item.payload = egresses-in item.end item.payload value response is in
+        let k : length response.outgoing_egresses ≤ length value.outgoing_egresses + length item.payload = egresses-in item.payload value response is in
         rw (← same) (omega arith)
     read-on value (Err f) is e = absurd cc
 
     by_member : (own : Option FromFunction) → (joined empty_response response_rows (response_of own) item >>= λ response. Ok (record { member = Some (answers.Result response) })) ≡ Ok next → answer-egresses next.member ≤ answer-egresses own + length item.payload + 1
-    by_member None e = read-on empty_response (value_in response_rows empty_response item.end item.payload) refl e
-    by_member (Some (answers.Result response)) e = read-on response (value_in response_rows response item.end item.payload) refl e
-    by_member (Some (answers.Incomplete context)) e = read-on empty_response (value_in response_rows empty_response item.end item.payload) refl e
+    by_member None e = read-on empty_response (value_in response_rows empty_response item.payload) refl e
+    by_member (Some (answers.Result response)) e = read-on response (value_in response_rows response item.payload) refl e
+    by_member (Some (answers.Incomplete context)) e = read-on empty_response (value_in response_rows empty_response item.payload) refl e
 
 -- an incomplete answer has none
-context-raises : (r : Result IncompleteInvocationContext WireFault) (member : Option FromFunction) (next : FromRead) (item : Item) → (r >>= λ context. Ok (record { member = Some (answers.Incomplete context) })) ≡ Ok next
+context-raises : (r : Result IncompleteInvocationContext ItemFault) (member : Option FromFunction) (next : FromRead) (item : Item) → (r >>= λ context. Ok (record { member = Some (answers.Incomplete context) })) ≡ Ok next
     → answer-egresses next.member ≤ answer-egresses member + length item.payload + 1
 context-raises (Ok context) member next item e = let same : record { member = Some (answers.Incomplete context) } ≡ next = cc in rw (← same) (omega arith)
 context-raises (Err f) member next item e = absurd cc
@@ -185,16 +186,16 @@ answer-raises value next item e =
 -- so a short answer has few of them
 pub egresses-few : (bytes : List ℕ) (response : InvocationResponse) → from_value bytes ≡ Ok (answers.Result response) → length bytes ≤ 4194304 → length response.outgoing_egresses < 2 ^ 32
 unfolding from_value no_answer
-egresses-few bytes response e short = by_read (value_in from_rows no_answer (length bytes) bytes) refl e
+egresses-few bytes response e short = by_read (value_in from_rows no_answer bytes) refl e
   where
-    by_read : (r : Result FromRead WireFault) → value_in from_rows no_answer (length bytes) bytes ≡ r → (r >>= λ read. present (length bytes) read.member) ≡ Ok (answers.Result response) → length response.outgoing_egresses < 2 ^ 32
+    by_read : (r : Result FromRead ItemFault) → value_in from_rows no_answer bytes ≡ r → (located (length bytes) r >>= λ read. present (length bytes) read.member) ≡ Ok (answers.Result response) → length response.outgoing_egresses < 2 ^ 32
     by_read (Ok read) is e = by_member read.member refl e
       where
         by_member : (member : Option FromFunction) → read.member ≡ member → present (length bytes) member ≡ Ok (answers.Result response) → length response.outgoing_egresses < 2 ^ 32
         by_member None m e = absurd cc
         by_member (Some answer) m e =
             let same : answer ≡ answers.Result response = cc in
-            let few : answer-egresses read.member ≤ answer-egresses no_answer.member + length bytes = counted from_rows (λ read. answer-egresses read.member) answer-raises (length bytes) (length bytes) bytes no_answer read (omega arith) is in
+            let few : answer-egresses read.member ≤ answer-egresses no_answer.member + length bytes = counted from_rows (λ read. answer-egresses read.member) answer-raises (length bytes) bytes no_answer read (omega arith) is in
             let own : answer-egresses read.member ≡ length response.outgoing_egresses = ap answer-egresses (m ∙ ap Some same) in
             omega arith
     by_read (Err f) is e = absurd cc

@@ -1,5 +1,5 @@
 pub mod Signed
+pub mod RoundTrip
 pub mod Counts
-pub mod Again
 pub mod Pieces
 pub mod Agreeing

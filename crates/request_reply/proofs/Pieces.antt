@@ -6,7 +6,7 @@ use Rattle.proto_wire.specs.declared.fault.WireFault.{WireFault}
 use Rattle.proto_wire.specs.declared.fault.WireKind.TheVariants.{OverLimit}
 use Rattle.proto_wire.specs.declared.fault.DecodeFault.{DecodeFault}
 use Rattle.proto_wire.specs.declared.fault.DecodeFault.TheVariants.{Wire, OutOfMemory}
-use Rattle.proto_wire.specs.Again.{below, not_below}
+use Rattle.proto_wire.proofs.Again.{below, not_below}
 use Rattle.proto_wire.specs.Reads.{Fails}
 use Rattle.request_reply.specs.Feeding.{Fed, fed, pieces_joined}
 

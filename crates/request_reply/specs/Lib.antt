@@ -3,9 +3,6 @@ pub mod AnswerTables
 pub mod Oneofs
 pub mod Spelling
 pub mod Valid
-pub mod RequestAgain
-pub mod AnswerAgain
-pub mod WholeAgain
 pub mod Feeding
 pub mod Flaws
 pub mod Letters

@@ -1,5 +1,6 @@
 //! An answer's messages, read and written by their tables.
 ghost use Rattle.std.specs.Prelude.{◌≡◌, ◌++◌, length, IfOk};
+ghost use Rattle.proto_wire.specs.Message.{spelling, fit};
 ghost use Rattle.request_reply.specs.AnswerTables.{empty_mutation, mutation_rows, empty_outgoing, outgoing_rows, empty_delayed, delayed_rows, empty_egress_message, egress_message_rows, empty_response, response_rows, empty_expiration, expiration_rows, empty_value_spec, value_spec_rows, empty_context, context_rows};
 
 use crate::{
@@ -7,13 +8,13 @@ use crate::{
     InvocationResponse, OutgoingInvocation, PersistedValueMutation, PersistedValueSpec,
 };
 use proto_wire::{
-    Bytes, DecodeFault, List, Mem, Message, Record, Text, append, bool_size, bytes_size, join,
+    Bytes, Decode, DecodeFault, Encode, List, Mem, Record, Text, bool_size, bytes_size,
     message_size, messages_size, signed_size, with_bool, with_enum, with_long, with_message,
     with_messages, with_text,
 };
 use std::alloc::Global;
 
-impl Message for PersistedValueMutation {
+impl Decode for PersistedValueMutation {
     ghost rows = { mutation_rows };
 
     ghost empty = { empty_mutation };
@@ -30,14 +31,20 @@ impl Message for PersistedValueMutation {
     #[tactic(auto, unfolding(crate::specs::AnswerTables::mutation_rows))]
     fn accept(&mut self, alloc: Global, item: &Record<'_>) -> Result<(), DecodeFault> {
         if item.is(1, 0) {
-            self.mutation_type = item.enumerated();
+            self.mutation_type = item.int();
         } else if item.is(2, 2) {
             self.state_name = item.text(alloc)?;
         } else if item.is(3, 2) {
-            join(alloc, &mut self.state_value, item)?;
+            item.enter(alloc, &mut self.state_value)?;
         }
         Ok(())
     }
+}
+
+impl Encode for PersistedValueMutation {
+    ghost spells = { spelling mutation_rows };
+
+    ghost fits = { fit mutation_rows };
 
     #[tactic(auto, unfolding(crate::specs::AnswerTables::mutation_rows))]
     fn size(&self) -> u64 {
@@ -54,7 +61,7 @@ impl Message for PersistedValueMutation {
     }
 }
 
-impl Message for OutgoingInvocation {
+impl Decode for OutgoingInvocation {
     ghost rows = { outgoing_rows };
 
     ghost empty = { empty_outgoing };
@@ -70,12 +77,18 @@ impl Message for OutgoingInvocation {
     #[tactic(auto, unfolding(crate::specs::AnswerTables::outgoing_rows))]
     fn accept(&mut self, alloc: Global, item: &Record<'_>) -> Result<(), DecodeFault> {
         if item.is(1, 2) {
-            join(alloc, &mut self.target, item)?;
+            item.enter(alloc, &mut self.target)?;
         } else if item.is(2, 2) {
-            join(alloc, &mut self.argument, item)?;
+            item.enter(alloc, &mut self.argument)?;
         }
         Ok(())
     }
+}
+
+impl Encode for OutgoingInvocation {
+    ghost spells = { spelling outgoing_rows };
+
+    ghost fits = { fit outgoing_rows };
 
     #[tactic(auto, unfolding(crate::specs::AnswerTables::outgoing_rows))]
     fn size(&self) -> u64 {
@@ -89,7 +102,7 @@ impl Message for OutgoingInvocation {
     }
 }
 
-impl Message for DelayedInvocation {
+impl Decode for DelayedInvocation {
     ghost rows = { delayed_rows };
 
     ghost empty = { empty_delayed };
@@ -110,9 +123,9 @@ impl Message for DelayedInvocation {
         if item.is(1, 0) {
             self.delay_in_ms = item.long();
         } else if item.is(2, 2) {
-            join(alloc, &mut self.target, item)?;
+            item.enter(alloc, &mut self.target)?;
         } else if item.is(3, 2) {
-            join(alloc, &mut self.argument, item)?;
+            item.enter(alloc, &mut self.argument)?;
         } else if item.is(10, 0) {
             self.is_cancellation_request = item.bool();
         } else if item.is(11, 2) {
@@ -120,6 +133,12 @@ impl Message for DelayedInvocation {
         }
         Ok(())
     }
+}
+
+impl Encode for DelayedInvocation {
+    ghost spells = { spelling delayed_rows };
+
+    ghost fits = { fit delayed_rows };
 
     #[tactic(auto, unfolding(crate::specs::AnswerTables::delayed_rows))]
     fn size(&self) -> u64 {
@@ -140,7 +159,7 @@ impl Message for DelayedInvocation {
     }
 }
 
-impl Message for EgressMessage {
+impl Decode for EgressMessage {
     ghost rows = { egress_message_rows };
 
     ghost empty = { empty_egress_message };
@@ -161,10 +180,16 @@ impl Message for EgressMessage {
         } else if item.is(2, 2) {
             self.egress_type = item.text(alloc)?;
         } else if item.is(3, 2) {
-            join(alloc, &mut self.argument, item)?;
+            item.enter(alloc, &mut self.argument)?;
         }
         Ok(())
     }
+}
+
+impl Encode for EgressMessage {
+    ghost spells = { spelling egress_message_rows };
+
+    ghost fits = { fit egress_message_rows };
 
     #[tactic(auto, unfolding(crate::specs::AnswerTables::egress_message_rows))]
     fn size(&self) -> u64 {
@@ -181,7 +206,7 @@ impl Message for EgressMessage {
     }
 }
 
-impl Message for InvocationResponse {
+impl Decode for InvocationResponse {
     ghost rows = { response_rows };
 
     ghost empty = { empty_response };
@@ -199,16 +224,22 @@ impl Message for InvocationResponse {
     #[tactic(auto, unfolding(crate::specs::AnswerTables::response_rows))]
     fn accept(&mut self, alloc: Global, item: &Record<'_>) -> Result<(), DecodeFault> {
         if item.is(1, 2) {
-            append(alloc, &mut self.state_mutations, item)?;
+            item.append_to(alloc, &mut self.state_mutations)?;
         } else if item.is(2, 2) {
-            append(alloc, &mut self.outgoing_messages, item)?;
+            item.append_to(alloc, &mut self.outgoing_messages)?;
         } else if item.is(3, 2) {
-            append(alloc, &mut self.delayed_invocations, item)?;
+            item.append_to(alloc, &mut self.delayed_invocations)?;
         } else if item.is(4, 2) {
-            append(alloc, &mut self.outgoing_egresses, item)?;
+            item.append_to(alloc, &mut self.outgoing_egresses)?;
         }
         Ok(())
     }
+}
+
+impl Encode for InvocationResponse {
+    ghost spells = { spelling response_rows };
+
+    ghost fits = { fit response_rows };
 
     #[tactic(auto, unfolding(crate::specs::AnswerTables::response_rows))]
     fn size(&self) -> u64 {
@@ -227,7 +258,7 @@ impl Message for InvocationResponse {
     }
 }
 
-impl Message for ExpirationSpec {
+impl Decode for ExpirationSpec {
     ghost rows = { expiration_rows };
 
     ghost empty = { empty_expiration };
@@ -243,12 +274,18 @@ impl Message for ExpirationSpec {
     #[tactic(auto, unfolding(crate::specs::AnswerTables::expiration_rows))]
     fn accept(&mut self, _alloc: Global, item: &Record<'_>) -> Result<(), DecodeFault> {
         if item.is(1, 0) {
-            self.mode = item.enumerated();
+            self.mode = item.int();
         } else if item.is(2, 0) {
             self.expire_after_millis = item.long();
         }
         Ok(())
     }
+}
+
+impl Encode for ExpirationSpec {
+    ghost spells = { spelling expiration_rows };
+
+    ghost fits = { fit expiration_rows };
 
     #[tactic(auto, unfolding(crate::specs::AnswerTables::expiration_rows))]
     fn size(&self) -> u64 {
@@ -265,7 +302,7 @@ impl Message for ExpirationSpec {
     }
 }
 
-impl Message for PersistedValueSpec {
+impl Decode for PersistedValueSpec {
     ghost rows = { value_spec_rows };
 
     ghost empty = { empty_value_spec };
@@ -284,12 +321,18 @@ impl Message for PersistedValueSpec {
         if item.is(1, 2) {
             self.state_name = item.text(alloc)?;
         } else if item.is(2, 2) {
-            join(alloc, &mut self.expiration_spec, item)?;
+            item.enter(alloc, &mut self.expiration_spec)?;
         } else if item.is(3, 2) {
             self.type_typename = item.text(alloc)?;
         }
         Ok(())
     }
+}
+
+impl Encode for PersistedValueSpec {
+    ghost spells = { spelling value_spec_rows };
+
+    ghost fits = { fit value_spec_rows };
 
     #[tactic(auto, unfolding(crate::specs::AnswerTables::value_spec_rows))]
     fn size(&self) -> u64 {
@@ -306,7 +349,7 @@ impl Message for PersistedValueSpec {
     }
 }
 
-impl Message for IncompleteInvocationContext {
+impl Decode for IncompleteInvocationContext {
     ghost rows = { context_rows };
 
     ghost empty = { empty_context };
@@ -321,10 +364,16 @@ impl Message for IncompleteInvocationContext {
     #[tactic(auto, unfolding(crate::specs::AnswerTables::context_rows))]
     fn accept(&mut self, alloc: Global, item: &Record<'_>) -> Result<(), DecodeFault> {
         if item.is(1, 2) {
-            append(alloc, &mut self.missing_values, item)?;
+            item.append_to(alloc, &mut self.missing_values)?;
         }
         Ok(())
     }
+}
+
+impl Encode for IncompleteInvocationContext {
+    ghost spells = { spelling context_rows };
+
+    ghost fits = { fit context_rows };
 
     #[tactic(auto, unfolding(crate::specs::AnswerTables::context_rows))]
     fn size(&self) -> u64 {

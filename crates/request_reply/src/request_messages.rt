@@ -1,15 +1,16 @@
 //! A request's messages, read and written by their tables.
 ghost use Rattle.std.specs.Prelude.{◌≡◌, ◌++◌, length, IfOk};
+ghost use Rattle.proto_wire.specs.Message.{spelling, fit};
 ghost use Rattle.request_reply.specs.RequestTables.{empty_persisted_value, persisted_value_rows, empty_batch_invocation, batch_invocation_rows, empty_batch, batch_rows};
 
 use crate::{BatchInvocation, InvocationBatchRequest, PersistedValue};
 use proto_wire::{
-    Bytes, DecodeFault, List, Mem, Message, Record, Text, append, bytes_size, join, message_size,
+    Bytes, Decode, DecodeFault, Encode, List, Mem, Record, Text, bytes_size, message_size,
     messages_size, with_message, with_messages, with_text,
 };
 use std::alloc::Global;
 
-impl Message for PersistedValue {
+impl Decode for PersistedValue {
     ghost rows = { persisted_value_rows };
 
     ghost empty = { empty_persisted_value };
@@ -27,10 +28,16 @@ impl Message for PersistedValue {
         if item.is(1, 2) {
             self.state_name = item.text(alloc)?;
         } else if item.is(2, 2) {
-            join(alloc, &mut self.state_value, item)?;
+            item.enter(alloc, &mut self.state_value)?;
         }
         Ok(())
     }
+}
+
+impl Encode for PersistedValue {
+    ghost spells = { spelling persisted_value_rows };
+
+    ghost fits = { fit persisted_value_rows };
 
     #[tactic(auto, unfolding(crate::specs::RequestTables::persisted_value_rows))]
     fn size(&self) -> u64 {
@@ -44,7 +51,7 @@ impl Message for PersistedValue {
     }
 }
 
-impl Message for BatchInvocation {
+impl Decode for BatchInvocation {
     ghost rows = { batch_invocation_rows };
 
     ghost empty = { empty_batch_invocation };
@@ -60,12 +67,18 @@ impl Message for BatchInvocation {
     #[tactic(auto, unfolding(crate::specs::RequestTables::batch_invocation_rows))]
     fn accept(&mut self, alloc: Global, item: &Record<'_>) -> Result<(), DecodeFault> {
         if item.is(1, 2) {
-            join(alloc, &mut self.caller, item)?;
+            item.enter(alloc, &mut self.caller)?;
         } else if item.is(2, 2) {
-            join(alloc, &mut self.argument, item)?;
+            item.enter(alloc, &mut self.argument)?;
         }
         Ok(())
     }
+}
+
+impl Encode for BatchInvocation {
+    ghost spells = { spelling batch_invocation_rows };
+
+    ghost fits = { fit batch_invocation_rows };
 
     #[tactic(auto, unfolding(crate::specs::RequestTables::batch_invocation_rows))]
     fn size(&self) -> u64 {
@@ -79,7 +92,7 @@ impl Message for BatchInvocation {
     }
 }
 
-impl Message for InvocationBatchRequest {
+impl Decode for InvocationBatchRequest {
     ghost rows = { batch_rows };
 
     ghost empty = { empty_batch };
@@ -96,14 +109,20 @@ impl Message for InvocationBatchRequest {
     #[tactic(auto, unfolding(crate::specs::RequestTables::batch_rows))]
     fn accept(&mut self, alloc: Global, item: &Record<'_>) -> Result<(), DecodeFault> {
         if item.is(1, 2) {
-            join(alloc, &mut self.target, item)?;
+            item.enter(alloc, &mut self.target)?;
         } else if item.is(2, 2) {
-            append(alloc, &mut self.state, item)?;
+            item.append_to(alloc, &mut self.state)?;
         } else if item.is(3, 2) {
-            append(alloc, &mut self.invocations, item)?;
+            item.append_to(alloc, &mut self.invocations)?;
         }
         Ok(())
     }
+}
+
+impl Encode for InvocationBatchRequest {
+    ghost spells = { spelling batch_rows };
+
+    ghost fits = { fit batch_rows };
 
     #[tactic(auto, unfolding(crate::specs::RequestTables::batch_rows))]
     fn size(&self) -> u64 {

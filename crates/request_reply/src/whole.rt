@@ -1,20 +1,15 @@
 //! Whole requests and answers: reading, writing and their sizes.
-ghost use Rattle.std.specs.Prelude.{◌≡◌, ◌++◌, length, IfOk, Ok};
-ghost use Rattle.request_reply.specs.declared.request.ToFunction.TheVariants.{Invocation};
-ghost use Rattle.request_reply.specs.declared.answer.FromFunction.TheVariants.{Result, Incomplete};
+ghost use Rattle.std.specs.Prelude.{◌≡◌, ◌++◌, length, IfOk, Ok, Some};
 ghost use Rattle.proto_wire.specs.Reads.{Gives};
-ghost use Rattle.proto_wire.specs.Message.{capped};
+ghost use Rattle.proto_wire.specs.Message.{capped, fit};
 ghost use Rattle.request_reply.specs.Oneofs.{no_request, to_rows, no_answer, from_rows};
 ghost use Rattle.request_reply.specs.Letters.{letter_record};
 ghost use Rattle.request_reply.specs.Spelling.{to_spelling, from_spelling, to_value, from_value};
 
-use crate::{
-    FromFunction, IncompleteInvocationContext, InvocationBatchRequest, InvocationResponse,
-    ToFunction,
-};
+use crate::{FromFunction, ToFunction};
 use proto_wire::{
-    Bytes, DecodeFault, Mem, Message, Record, joined, member_size, merge, no_member, record_size,
-    with_member,
+    Bytes, Decode, DecodeFault, Encode, Mem, Record, decoded, encoded, member_size, no_member,
+    record_size, with_member,
 };
 use std::alloc::Global;
 use typed_values::{Letter, Sender};
@@ -25,7 +20,7 @@ pub struct ToRead {
     pub member: Option<ToFunction>,
 }
 
-impl Message for ToRead {
+impl Decode for ToRead {
     ghost rows = { to_rows };
 
     ghost empty = { no_request };
@@ -42,25 +37,9 @@ impl Message for ToRead {
                 Some(ToFunction::Invocation(batch)) => Some(batch),
                 None => None,
             };
-            self.member = Some(ToFunction::Invocation(joined(alloc, held, item)?));
+            self.member = Some(ToFunction::Invocation(item.message(alloc, held)?));
         }
         Ok(())
-    }
-
-    #[tactic(auto, unfolding(crate::specs::Oneofs::to_rows, crate::specs::Oneofs::batch_of, proto_wire::specs::Message::spelled_message))]
-    fn size(&self) -> u64 {
-        match &self.member {
-            Some(ToFunction::Invocation(batch)) => member_size(100, batch),
-            None => 0,
-        }
-    }
-
-    #[tactic(auto, unfolding(crate::specs::Oneofs::to_rows, crate::specs::Oneofs::batch_of, proto_wire::specs::Message::spelled_message, proto_wire::specs::Message::fit_message))]
-    fn put(&self, into: Bytes) -> Mem<Bytes> {
-        match &self.member {
-            Some(ToFunction::Invocation(batch)) => with_member(into, 100, batch),
-            None => Ok(into),
-        }
     }
 }
 
@@ -70,7 +49,7 @@ pub struct FromRead {
     pub member: Option<FromFunction>,
 }
 
-impl Message for FromRead {
+impl Decode for FromRead {
     ghost rows = { from_rows };
 
     ghost empty = { no_answer };
@@ -88,33 +67,55 @@ impl Message for FromRead {
                 Some(FromFunction::Incomplete(_context)) => None,
                 None => None,
             };
-            self.member = Some(FromFunction::Result(joined(alloc, held, item)?));
+            self.member = Some(FromFunction::Result(item.message(alloc, held)?));
         } else if item.is(101, 2) {
             let held = match self.member.take() {
                 Some(FromFunction::Incomplete(context)) => Some(context),
                 Some(FromFunction::Result(_response)) => None,
                 None => None,
             };
-            self.member = Some(FromFunction::Incomplete(joined(alloc, held, item)?));
+            self.member = Some(FromFunction::Incomplete(item.message(alloc, held)?));
         }
         Ok(())
     }
+}
 
-    #[tactic(auto, unfolding(crate::specs::Oneofs::from_rows, crate::specs::Oneofs::response_of, crate::specs::Oneofs::context_of, proto_wire::specs::Message::spelled_message))]
+impl Encode for ToFunction {
+    ghost spells = { to_spelling };
+
+    ghost fits = { λ request. fit to_rows (record { member = Some request }) };
+
+    #[tactic(auto, unfolding(crate::specs::Spelling::to_spelling, crate::specs::Oneofs::to_rows, crate::specs::Oneofs::batch_of, proto_wire::specs::Message::spelled_message))]
     fn size(&self) -> u64 {
-        match &self.member {
-            Some(FromFunction::Result(response)) => member_size(100, response),
-            Some(FromFunction::Incomplete(context)) => member_size(101, context),
-            None => 0,
+        let ToFunction::Invocation(batch) = self;
+        member_size(100, batch)
+    }
+
+    #[tactic(auto, unfolding(crate::specs::Spelling::to_spelling, crate::specs::Oneofs::to_rows, crate::specs::Oneofs::batch_of, proto_wire::specs::Message::spelled_message, proto_wire::specs::Message::fit_message))]
+    fn put(&self, into: Bytes) -> Mem<Bytes> {
+        let ToFunction::Invocation(batch) = self;
+        with_member(into, 100, batch)
+    }
+}
+
+impl Encode for FromFunction {
+    ghost spells = { from_spelling };
+
+    ghost fits = { λ answer. fit from_rows (record { member = Some answer }) };
+
+    #[tactic(auto, unfolding(crate::specs::Spelling::from_spelling, crate::specs::Oneofs::from_rows, crate::specs::Oneofs::response_of, crate::specs::Oneofs::context_of, proto_wire::specs::Message::spelled_message))]
+    fn size(&self) -> u64 {
+        match self {
+            FromFunction::Result(response) => member_size(100, response),
+            FromFunction::Incomplete(context) => member_size(101, context),
         }
     }
 
-    #[tactic(auto, unfolding(crate::specs::Oneofs::from_rows, crate::specs::Oneofs::response_of, crate::specs::Oneofs::context_of, proto_wire::specs::Message::spelled_message, proto_wire::specs::Message::fit_message))]
+    #[tactic(auto, unfolding(crate::specs::Spelling::from_spelling, crate::specs::Oneofs::from_rows, crate::specs::Oneofs::response_of, crate::specs::Oneofs::context_of, proto_wire::specs::Message::spelled_message, proto_wire::specs::Message::fit_message))]
     fn put(&self, into: Bytes) -> Mem<Bytes> {
-        match &self.member {
-            Some(FromFunction::Result(response)) => with_member(into, 100, response),
-            Some(FromFunction::Incomplete(context)) => with_member(into, 101, context),
-            None => Ok(into),
+        match self {
+            FromFunction::Result(response) => with_member(into, 100, response),
+            FromFunction::Incomplete(context) => with_member(into, 101, context),
         }
     }
 }
@@ -124,17 +125,7 @@ pub fn encode_to(alloc: Global, value: &ToFunction) -> Mem<Bytes>
     ensures spelled { IfOk result (λ b. b ≡ to_spelling value.now) }
     ensures again { IfOk result (λ b. to_value b ≡ Ok value.now) }
 {
-    let ToFunction::Invocation(batch) = value;
-    invocation(alloc, batch)
-}
-
-#[tactic(auto, unfolding(crate::specs::Spelling::to_spelling, crate::specs::Oneofs::to_rows, crate::specs::Oneofs::batch_of, proto_wire::specs::Message::spelled_message))]
-fn invocation(alloc: Global, batch: &InvocationBatchRequest) -> Mem<Bytes>
-    ensures spelled { IfOk result (λ b. b ≡ to_spelling (Invocation batch.now)) }
-    ensures again { IfOk result (λ b. to_value b ≡ Ok (Invocation batch.now)) }
-{
-    let bytes = with_member(Bytes::new(alloc), 100, batch)?;
-    let _len = bytes.len();
+    let bytes = encoded(alloc, value)?;
     Ok(bytes)
 }
 
@@ -143,59 +134,30 @@ pub fn encode_from(alloc: Global, value: &FromFunction) -> Mem<Bytes>
     ensures spelled { IfOk result (λ b. b ≡ from_spelling value.now) }
     ensures again { IfOk result (λ b. from_value b ≡ Ok value.now) }
 {
-    match value {
-        FromFunction::Result(response) => served(alloc, response),
-        FromFunction::Incomplete(context) => incomplete(alloc, context),
-    }
-}
-
-#[tactic(auto, unfolding(crate::specs::Spelling::from_spelling, crate::specs::Oneofs::from_rows, crate::specs::Oneofs::response_of, crate::specs::Oneofs::context_of, proto_wire::specs::Message::spelled_message))]
-fn served(alloc: Global, response: &InvocationResponse) -> Mem<Bytes>
-    ensures spelled { IfOk result (λ b. b ≡ from_spelling (Result response.now)) }
-    ensures again { IfOk result (λ b. from_value b ≡ Ok (Result response.now)) }
-{
-    let bytes = with_member(Bytes::new(alloc), 100, response)?;
-    let _len = bytes.len();
-    Ok(bytes)
-}
-
-#[tactic(auto, unfolding(crate::specs::Spelling::from_spelling, crate::specs::Oneofs::from_rows, crate::specs::Oneofs::response_of, crate::specs::Oneofs::context_of, proto_wire::specs::Message::spelled_message))]
-fn incomplete(alloc: Global, context: &IncompleteInvocationContext) -> Mem<Bytes>
-    ensures spelled { IfOk result (λ b. b ≡ from_spelling (Incomplete context.now)) }
-    ensures again { IfOk result (λ b. from_value b ≡ Ok (Incomplete context.now)) }
-{
-    let bytes = with_member(Bytes::new(alloc), 101, context)?;
-    let _len = bytes.len();
+    let bytes = encoded(alloc, value)?;
     Ok(bytes)
 }
 
 /// The length of the canonical spelling of a request, or `u64::MAX` where it is greater. Takes no memory.
-#[tactic(auto, unfolding(crate::specs::Spelling::to_spelling, crate::specs::Oneofs::to_rows, crate::specs::Oneofs::batch_of, proto_wire::specs::Message::spelled_message))]
 pub fn size_to(value: &ToFunction) -> u64
     ensures { result ≡ capped (length (to_spelling value.now)) }
 {
-    let ToFunction::Invocation(batch) = value;
-    member_size(100, batch)
+    value.size()
 }
 
 /// The length of the canonical spelling of an answer, or `u64::MAX` where it is greater. Takes no memory.
-#[tactic(auto, unfolding(crate::specs::Spelling::from_spelling, crate::specs::Oneofs::from_rows, crate::specs::Oneofs::response_of, crate::specs::Oneofs::context_of, proto_wire::specs::Message::spelled_message))]
 pub fn size_from(value: &FromFunction) -> u64
     ensures { result ≡ capped (length (from_spelling value.now)) }
 {
-    match value {
-        FromFunction::Result(response) => member_size(100, response),
-        FromFunction::Incomplete(context) => member_size(101, context),
-    }
+    value.size()
 }
 
 /// The request that the bytes spell: `Ok` exactly where they spell one, else their first fault.
-#[tactic(auto, unfolding(crate::specs::Spelling::to_value, crate::specs::Oneofs::no_request))]
+#[tactic(auto, unfolding(crate::specs::Spelling::to_value))]
 pub fn decode_to(alloc: Global, bytes: &[u8]) -> Result<ToFunction, DecodeFault>
     ensures { Gives (λ request. request) result (to_value bytes.now) }
 {
-    let mut read = ToRead { member: None };
-    merge(alloc, &mut read, bytes.len(), bytes)?;
+    let read: ToRead = decoded(alloc, bytes)?;
     match read.member {
         Some(request) => Ok(request),
         None => Err(no_member(bytes)),
@@ -203,12 +165,11 @@ pub fn decode_to(alloc: Global, bytes: &[u8]) -> Result<ToFunction, DecodeFault>
 }
 
 /// The answer that the bytes spell: `Ok` exactly where they spell one, else their first fault.
-#[tactic(auto, unfolding(crate::specs::Spelling::from_value, crate::specs::Oneofs::no_answer))]
+#[tactic(auto, unfolding(crate::specs::Spelling::from_value))]
 pub fn decode_from(alloc: Global, bytes: &[u8]) -> Result<FromFunction, DecodeFault>
     ensures { Gives (λ answer. answer) result (from_value bytes.now) }
 {
-    let mut read = FromRead { member: None };
-    merge(alloc, &mut read, bytes.len(), bytes)?;
+    let read: FromRead = decoded(alloc, bytes)?;
     match read.member {
         Some(answer) => Ok(answer),
         None => Err(no_member(bytes)),

@@ -1,2 +1,4 @@
+pub mod Sameness
 pub mod Slash
-pub mod Written
+pub mod RoundTrip
+pub mod LastRecord

@@ -14,6 +14,10 @@ use Rattle.typed_values.specs.declared.reading.DelayRead.{DelayRead}
 use Rattle.typed_values.specs.declared.reading.EgressRead.{EgressRead}
 use Rattle.typed_values.specs.Tables.{empty_address, address_rows, empty_value, value_rows}
 
+infixl 10 ◌>>=◌
+abbrev ◌>>=◌ : {A B : Type 0} → Option A → (A → Option B) → Option B
+o >>= f = option_and_then f o
+
 -- ---- senders
 
 -- the member that stands, where it is this one
@@ -53,8 +57,12 @@ letter_read letter = record { sender = Some (record { member = Some letter.sende
 
 -- a letter needs a sender with its member, a target and an argument
 unfoldable pub letter_of : LetterRead → Option Letter
-letter_of it =
-    option_and_then (λ (read : SenderRead). option_and_then (λ (sender : Sender). option_and_then (λ (target : Address). option_and_then (λ (argument : TypedValue). Some (record { sender = sender; target = target; argument = argument })) it.argument) it.target) read.member) it.sender
+letter_of it = do
+  read ← it.sender
+  sender ← read.member
+  target ← it.target
+  argument ← it.argument
+  Some (record { sender = sender; target = target; argument = argument })
 
 -- ---- delayed letters
 
@@ -75,8 +83,11 @@ delay_read delay = record { sender = Some delay.sender; due = delay.due; target 
 
 -- a delayed letter needs a sender, a target and an argument
 unfoldable pub delay_of : DelayRead → Option Delay
-delay_of it =
-    option_and_then (λ (sender : Address). option_and_then (λ (target : Address). option_and_then (λ (argument : TypedValue). Some (record { sender = sender; due = it.due; target = target; token = it.token; argument = argument })) it.argument) it.target) it.sender
+delay_of it = do
+  sender ← it.sender
+  target ← it.target
+  argument ← it.argument
+  Some (record { sender = sender; due = it.due; target = target; token = it.token; argument = argument })
 
 -- ---- egress records
 
@@ -96,5 +107,7 @@ egress_read egress = record { sender = Some egress.sender; namespace = egress.eg
 
 -- an egress record needs a sender and an argument
 unfoldable pub egress_of : EgressRead → Option EgressRecord
-egress_of it =
-    option_and_then (λ (sender : Address). option_and_then (λ (argument : TypedValue). Some (record { sender = sender; egress = record { namespace = it.namespace; name = it.name }; argument = argument })) it.argument) it.sender
+egress_of it = do
+  sender ← it.sender
+  argument ← it.argument
+  Some (record { sender = sender; egress = record { namespace = it.namespace; name = it.name }; argument = argument })

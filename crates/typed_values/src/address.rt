@@ -1,8 +1,8 @@
 //! Addresses of functions.
-ghost use Rattle.std.specs.Prelude.{◌≡◌, ◌↔◌, IsTrue, IfOk};
+ghost use Rattle.std.specs.Prelude.{◌≡◌, IfOk};
 
 use crate::TypeName;
-use proto_wire::{Mem, Same, Text, TryClone};
+use proto_wire::{Mem, Text, TryClone};
 use std::alloc::Global;
 
 /// One function: its type, and its id among those of the type.
@@ -18,11 +18,5 @@ impl TryClone for Address {
             kind: self.kind.try_clone(alloc)?,
             id: self.id.try_clone(alloc)?,
         })
-    }
-}
-
-impl Same for Address {
-    fn is_same(&self, other: &Address) -> bool {
-        self.kind.is_same(&other.kind) && self.id.is_same(&other.id)
     }
 }

@@ -1,8 +1,8 @@
 //! Letters between functions.
-ghost use Rattle.std.specs.Prelude.{◌≡◌, ◌↔◌, IsTrue, IfOk};
+ghost use Rattle.std.specs.Prelude.{◌≡◌, IfOk};
 
 use crate::{Address, TypedValue};
-use proto_wire::{Mem, Same, TryClone};
+use proto_wire::{Mem, TryClone};
 use std::alloc::Global;
 
 /// Who sent a letter: a split of an ingress, by its number, or a function.
@@ -17,16 +17,6 @@ impl TryClone for Sender {
         match self {
             Sender::Split(split) => Ok(Sender::Split(*split)),
             Sender::Function(address) => Ok(Sender::Function(address.try_clone(alloc)?)),
-        }
-    }
-}
-
-impl Same for Sender {
-    fn is_same(&self, other: &Sender) -> bool {
-        match (self, other) {
-            (Sender::Split(split), Sender::Split(other)) => split == other,
-            (Sender::Function(address), Sender::Function(other)) => address.is_same(other),
-            _ => false,
         }
     }
 }
@@ -46,13 +36,5 @@ impl TryClone for Letter {
             target: self.target.try_clone(alloc)?,
             argument: self.argument.try_clone(alloc)?,
         })
-    }
-}
-
-impl Same for Letter {
-    fn is_same(&self, other: &Letter) -> bool {
-        self.sender.is_same(&other.sender)
-            && self.target.is_same(&other.target)
-            && self.argument.is_same(&other.argument)
     }
 }

@@ -12,12 +12,13 @@ mod record;
 mod stored;
 mod value;
 mod wrapped;
+mod writing;
 
 pub use address::Address;
 pub use cell::{CellSpec, Expiry};
 pub use letter::{Letter, Sender};
 pub use name::TypeName;
-pub use parse::{NameFault, parse_name, parse_type_name};
+pub use parse::{NameFault, names_are_made_so, parse_name, parse_type_name};
 pub use record::{Delay, EgressRecord};
 pub use stored::{
     decode_address, decode_delay, decode_egress, decode_letter, decode_sender, decode_value,

@@ -1,15 +1,16 @@
 //! Addresses and values as messages.
 ghost use Rattle.std.specs.Prelude.{◌≡◌, ◌++◌, length, IfOk};
+ghost use Rattle.proto_wire.specs.Message.{spelling, fit};
 ghost use Rattle.typed_values.specs.Tables.{empty_address, address_rows, empty_value, value_rows};
 
 use crate::{Address, TypeName, TypedValue};
 use proto_wire::{
-    Bytes, DecodeFault, Mem, Message, Record, Text, bool_size, bytes_size, with_bool, with_bytes,
-    with_text,
+    Bytes, Decode, DecodeFault, Encode, Mem, Record, Text, bool_size, bytes_size, with_bool,
+    with_bytes, with_text,
 };
 use std::alloc::Global;
 
-impl Message for Address {
+impl Decode for Address {
     ghost rows = { address_rows };
 
     ghost empty = { empty_address };
@@ -36,6 +37,12 @@ impl Message for Address {
         }
         Ok(())
     }
+}
+
+impl Encode for Address {
+    ghost spells = { spelling address_rows };
+
+    ghost fits = { fit address_rows };
 
     #[tactic(auto, unfolding(crate::specs::Tables::address_rows))]
     fn size(&self) -> u64 {
@@ -52,7 +59,7 @@ impl Message for Address {
     }
 }
 
-impl Message for TypedValue {
+impl Decode for TypedValue {
     ghost rows = { value_rows };
 
     ghost empty = { empty_value };
@@ -77,6 +84,12 @@ impl Message for TypedValue {
         }
         Ok(())
     }
+}
+
+impl Encode for TypedValue {
+    ghost spells = { spelling value_rows };
+
+    ghost fits = { fit value_rows };
 
     #[tactic(auto, unfolding(crate::specs::Tables::value_rows))]
     fn size(&self) -> u64 {

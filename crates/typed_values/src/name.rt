@@ -1,7 +1,7 @@
 //! Names of types: of functions, ingresses, egresses and values.
-ghost use Rattle.std.specs.Prelude.{◌≡◌, ◌↔◌, IsTrue, IfOk};
+ghost use Rattle.std.specs.Prelude.{◌≡◌, IfOk};
 
-use proto_wire::{Mem, Same, Text, TryClone};
+use proto_wire::{Mem, Text, TryClone};
 use std::alloc::Global;
 
 /// A name in a namespace, written `namespace/name`.
@@ -17,11 +17,5 @@ impl TryClone for TypeName {
             namespace: self.namespace.try_clone(alloc)?,
             name: self.name.try_clone(alloc)?,
         })
-    }
-}
-
-impl Same for TypeName {
-    fn is_same(&self, other: &TypeName) -> bool {
-        self.namespace.is_same(&other.namespace) && self.name.is_same(&other.name)
     }
 }

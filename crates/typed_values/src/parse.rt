@@ -1,6 +1,6 @@
 //! Reading of names.
 ghost use Rattle.std.specs.Prelude.{◌≡◌, ◌↔◌, Some, None, Err, IfOk};
-ghost use Rattle.typed_values.specs.Names.{name_in, named};
+ghost use Rattle.typed_values.specs.Names.{name_in, named, NamesAreMadeSo};
 ghost use Rattle.typed_values.specs.declared.parse.NameFault.TheVariants.{BadName, OutOfMemory as WantsMemory};
 
 use crate::TypeName;
@@ -58,3 +58,9 @@ fn name_of(alloc: Global, namespace: &str, name: &str) -> Result<TypeName, NameF
         name: Text::copy_of(alloc, name)?,
     })
 }
+
+/// A name stands in a text exactly where the text is a namespace, a slash and a name without a slash, neither of them empty.
+/// The function does nothing: its contract is that law.
+pub fn names_are_made_so()
+    ensures { NamesAreMadeSo }
+{}

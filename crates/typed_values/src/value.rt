@@ -1,7 +1,7 @@
 //! Values that carry the name of their type.
-ghost use Rattle.std.specs.Prelude.{◌≡◌, ◌↔◌, IsTrue, IfOk};
+ghost use Rattle.std.specs.Prelude.{◌≡◌, IfOk};
 
-use proto_wire::{Bytes, Mem, Same, Text, TryClone};
+use proto_wire::{Bytes, Mem, Text, TryClone};
 use std::alloc::Global;
 
 /// Bytes with the name of their type. A value with `has_value` false is none, whatever its bytes are.
@@ -19,13 +19,5 @@ impl TryClone for TypedValue {
             has_value: self.has_value,
             value: self.value.try_clone(alloc)?,
         })
-    }
-}
-
-impl Same for TypedValue {
-    fn is_same(&self, other: &TypedValue) -> bool {
-        self.has_value == other.has_value
-            && self.typename.is_same(&other.typename)
-            && self.value.is_same(&other.value)
     }
 }

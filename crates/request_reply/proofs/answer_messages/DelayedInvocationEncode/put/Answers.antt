@@ -2,7 +2,7 @@ use Rattle.std.proofs.Common.{append_assoc, arith}
 use Rattle.std.proofs.lemmas.List.{append-nil}
 use Rattle.std.proofs.lemmas.Int.{to_z-of_z}
 use Rattle.request_reply.specs.AnswerTables.{delayed_rows}
-use Rattle.request_reply.proofs.answer_messages.DelayedInvocationMessage.put.Goals as goal
+use Rattle.request_reply.proofs.answer_messages.DelayedInvocationEncode.put.Goals as goal
 
 pub returns : goal.returns
 unfolding delayed_rows
