@@ -3,3 +3,5 @@ pub mod Scans
 pub mod Again
 pub mod RoundTrip
 pub mod LastScalar
+pub mod Fronts
+pub mod Joined

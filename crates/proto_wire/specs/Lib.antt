@@ -4,3 +4,5 @@ pub mod Places
 pub mod Reads
 pub mod Message
 pub mod Kinds
+pub mod Encoding
+pub mod Laws

@@ -5,6 +5,7 @@ mod bytes;
 mod compared;
 mod fault;
 mod field;
+mod laws;
 mod list;
 mod memory;
 mod message;
@@ -17,6 +18,7 @@ mod varint;
 
 pub use bytes::Bytes;
 pub use fault::{DecodeFault, WireFault, WireKind, no_member};
+pub use laws::joined_bytes_are_read_on;
 pub use list::List;
 pub use memory::{Mem, OutOfMemory, TryClone};
 pub use message::{Decode, Encode, decoded, encoded, last_record};

@@ -1,0 +1,89 @@
+-- The wire format over whole byte lists (Protocol Buffers encoding guide), told without a reader.
+use Rattle.std.specs.Prelude.{◌≡◌, ◌≤◌, ◌<◌, ◌⊎◌, ℕ, zero, suc, ◌+◌, ◌*◌, ◌%◌, ◌^◌, Bool, true, false, List, [], ◌∷◌, ◌++◌, length, map}
+use Rattle.std.specs.Prelude.{Option, Some, None, option_map, Result, Ok, Err, All, filter, if◌then◌else◌}
+use Rattle.std.specs.List.{concat, list_any}
+use Rattle.std.specs.Int.{w32, w64, from_le_bytes}
+use Rattle.proto_wire.specs.Varint.{ItemFault, ◌>>=◌}
+use Rattle.proto_wire.specs.Record.{Item, is_wire, Scan, Whole, Broken, Then, record_in}
+use Rattle.proto_wire.specs.Message.{Row, belongs, accepted, value_in}
+
+abbrev pub AreBytes : List ℕ → Type 0
+AreBytes bytes = All (λ b. b < 256) bytes
+
+-- ---- varints ("Base 128 Varints")
+
+-- the sum of the low seven bits of each byte times 128 to the power of its place; the first byte has this place
+abbrev pub sum_by_place : ℕ → List ℕ → ℕ
+sum_by_place place [] = 0
+sum_by_place place (b ∷ bytes) = (b % 128) * 128 ^ place + sum_by_place (suc place) bytes
+
+-- a byte with the high bit
+abbrev pub IsContinued : ℕ → Type 0
+IsContinued b = (128 ≤ b) × (b < 256)
+
+-- one to ten bytes; the high bit says that a further one follows
+pub record IsVarint (spelling : List ℕ) (number : ℕ) : Type 0 where
+  pub front : List ℕ
+  pub last : ℕ
+  pub is : spelling ≡ front ++ last ∷ []
+  pub continued : All IsContinued front
+  pub ended : last < 128
+  pub short : length spelling ≤ 10
+  pub sum : number ≡ sum_by_place 0 spelling % 2 ^ 64
+
+-- the bytes are a varint of this number, and then the rest
+pub record Begins (bytes : List ℕ) (number : ℕ) (rest : List ℕ) : Type 0 where
+  pub spelling : List ℕ
+  pub is : bytes ≡ spelling ++ rest
+  pub spells : IsVarint spelling number
+
+-- ---- records ("Message Structure")
+
+-- a tag: a varint below 2 ^ 32 that holds a field from 1 on and a wire type
+pub record IsTagOf (field wire : ℕ) (spelling : List ℕ) : Type 0 where
+  pub spells : IsVarint spelling (8 * field + wire)
+  pub fits : 8 * field + wire < 2 ^ 32
+  pub has_field : 1 ≤ field
+  pub has_wire : is_wire wire ≡ true
+
+-- a payload by its wire type: a varint, eight bytes, a length and that many bytes ("Length-Delimited Records"), four bytes; lowest byte first
+pub data IsPayload (item : Item) (spelling : List ℕ) : Type 0 where
+  a_varint : item.wire ≡ 0 → IsVarint spelling item.number → item.payload ≡ spelling → IsPayload item spelling
+  eight_bytes : item.wire ≡ 1 → length spelling ≡ 8 → item.number ≡ from_le_bytes w64 spelling → item.payload ≡ spelling → IsPayload item spelling
+  delimited : item.wire ≡ 2 → (len : List ℕ) → IsVarint len item.number → length item.payload ≡ item.number → spelling ≡ len ++ item.payload → IsPayload item spelling
+  four_bytes : item.wire ≡ 5 → length spelling ≡ 4 → item.number ≡ from_le_bytes w32 spelling → item.payload ≡ spelling → IsPayload item spelling
+
+pub record IsRecord (spelling : List ℕ) (item : Item) : Type 0 where
+  pub tag : List ℕ
+  pub payload : List ℕ
+  pub is : spelling ≡ tag ++ payload
+  pub tag_is : IsTagOf item.field item.wire tag
+  pub payload_is : IsPayload item payload
+
+-- the bytes are these records, one behind the other, and nothing else
+pub data HaveRecords : List ℕ → List Item → Type 0 where
+  no_more : HaveRecords [] []
+  next : (bytes spelling rest : List ℕ) (item : Item) (items : List Item)
+    → bytes ≡ spelling ++ rest → IsRecord spelling item → HaveRecords rest items → HaveRecords bytes (item ∷ items)
+
+-- the records that are read, where they are whole
+abbrev pub items_of : Scan → Option (List Item)
+items_of Whole = Some []
+items_of (Broken e) = None
+items_of (Then item left more) = option_map (λ items. item ∷ items) (items_of more)
+
+-- ---- fields of a table
+
+-- no row takes the record ("Unknown Fields")
+abbrev pub IsUnknown : {M : Type 0} → List (Row M) → Item → Type 0
+IsUnknown rows item = list_any (λ row. belongs row.field row.wire item) rows ≡ false
+
+-- what a field is, by one record: each of this number and wire type says what it is then, and no other changes it
+pub record IsScalar {M A : Type 0} (rows : List (Row M)) (field wire : ℕ) (reads : Item → Result A ItemFault) (get : M → A) : Type 0 where
+  pub taken : (old new : M) (item : Item) → accepted rows old item ≡ Ok new → belongs field wire item ≡ true → reads item ≡ Ok (get new)
+  pub kept : (old new : M) (item : Item) → accepted rows old item ≡ Ok new → belongs field wire item ≡ false → get new ≡ get old
+
+-- what the last record of a field says, or what stood where there is none ("Last One Wins")
+abbrev pub last_says : {A : Type 0} → (Item → Result A ItemFault) → A → Option Item → Result A ItemFault
+last_says reads held None = Ok held
+last_says reads held (Some item) = reads item
