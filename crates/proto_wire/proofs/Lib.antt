@@ -5,3 +5,6 @@ pub mod RoundTrip
 pub mod LastScalar
 pub mod Fronts
 pub mod Joined
+pub mod Fields
+pub mod FirstFault
+pub mod Spelled

@@ -5,7 +5,7 @@ use Rattle.std.specs.List.{concat, list_any}
 use Rattle.std.specs.Int.{w32, w64, from_le_bytes}
 use Rattle.proto_wire.specs.Varint.{ItemFault, ◌>>=◌}
 use Rattle.proto_wire.specs.Record.{Item, is_wire, Scan, Whole, Broken, Then, record_in}
-use Rattle.proto_wire.specs.Message.{Row, belongs, accepted, value_in}
+use Rattle.proto_wire.specs.Message.{Row, belongs, accepted, value_in, entered}
 
 abbrev pub AreBytes : List ℕ → Type 0
 AreBytes bytes = All (λ b. b < 256) bytes
@@ -87,3 +87,48 @@ pub record IsScalar {M A : Type 0} (rows : List (Row M)) (field wire : ℕ) (rea
 abbrev pub last_says : {A : Type 0} → (Item → Result A ItemFault) → A → Option Item → Result A ItemFault
 last_says reads held None = Ok held
 last_says reads held (Some item) = reads item
+
+-- the records behind the last one that passes the test; all, where none passes
+abbrev pub behind_last : (Item → Bool) → List Item → List Item
+behind_last other [] = []
+behind_last other (item ∷ items) = if list_any other items then behind_last other items else (if other item then items else item ∷ items)
+
+abbrev pub joined_payloads : List Item → List ℕ
+joined_payloads items = concat (map (λ item. item.payload) items)
+
+-- what the joined payloads of records make of the blank message, where there is a record
+abbrev pub joined_value : {N : Type 0} → N → List (Row N) → List Item → Result (Option N) ItemFault
+joined_value blank inner [] = Ok None
+joined_value blank inner (item ∷ items) = value_in inner blank (joined_payloads (item ∷ items)) >>= λ value. Ok (Some value)
+
+-- what a singular message is, by one record: each of this number and wire type goes on from it, and no other changes it
+pub record IsSingular {M N : Type 0} (rows : List (Row M)) (inner : List (Row N)) (blank : N) (field wire : ℕ) (get : M → Option N) : Type 0 where
+  pub taken : (old new : M) (item : Item) → accepted rows old item ≡ Ok new → belongs field wire item ≡ true → entered blank inner (get old) item ≡ Ok (get new)
+  pub kept : (old new : M) (item : Item) → accepted rows old item ≡ Ok new → belongs field wire item ≡ false → get new ≡ get old
+
+-- what a member of a oneof is, by one record: each of its own goes on from it, each of another member drops it, and no other changes it
+pub record IsMember {M N : Type 0} (rows : List (Row M)) (inner : List (Row N)) (blank : N) (field wire : ℕ) (other : Item → Bool) (get : M → Option N) : Type 0 where
+  pub taken : (old new : M) (item : Item) → accepted rows old item ≡ Ok new → belongs field wire item ≡ true → entered blank inner (get old) item ≡ Ok (get new)
+  pub dropped : (old new : M) (item : Item) → accepted rows old item ≡ Ok new → other item ≡ true → get new ≡ None
+  pub kept : (old new : M) (item : Item) → accepted rows old item ≡ Ok new → belongs field wire item ≡ false → other item ≡ false → get new ≡ get old
+
+-- ---- the first fault of bytes
+
+-- the record at the front is whole, and its entering into the value has a fault; what is left behind it counts to the fault's place
+pub record IsRefused {M : Type 0} (rows : List (Row M)) (value : M) (bytes : List ℕ) (fault : ItemFault) : Type 0 where
+  pub item : Item
+  pub rest : List ℕ
+  pub read : record_in bytes ≡ Ok (item, rest)
+  pub inner : ItemFault
+  pub refused : accepted rows value item ≡ Err inner
+  pub is : fault ≡ record { kind = inner.kind; left = inner.left + length rest }
+
+-- records that make a value, and then one that has the fault, or that the value refuses with it
+pub record StopsAt {M : Type 0} (rows : List (Row M)) (old : M) (bytes : List ℕ) (fault : ItemFault) : Type 0 where
+  pub read : List ℕ
+  pub left : List ℕ
+  pub is : bytes ≡ read ++ left
+  pub value : M
+  pub so_far : value_in rows old read ≡ Ok value
+  pub more : 0 < length left
+  pub stops : (record_in left ≡ Err fault) ⊎ IsRefused rows value left fault

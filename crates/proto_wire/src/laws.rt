@@ -1,9 +1,38 @@
 //! Laws of the wire format: what its definitions come to over whole bytes. Each function does nothing, and its contract is the law.
-ghost use Rattle.proto_wire.specs.Laws.{JoinedBytesAreReadOn};
+ghost use Rattle.proto_wire.specs.Laws.{
+    FirstFaultCounts, JoinedBytesAreReadOn, LastScalarCounts, MemberIsJoined, SingularIsJoined,
+    VarintsAreRead,
+};
 
 use crate::message::Decode;
+
+/// A varint is read exactly where the bytes begin with one: one to ten bytes of which all but the last have the high bit. Its number is the sum of their low seven
+/// bits, lowest first, modulo 2^64.
+pub fn varints_are_read()
+    ensures { VarintsAreRead }
+{}
 
 /// Bytes that are joined to others are read on from the value that the first make.
 pub fn joined_bytes_are_read_on<M: Decode>()
     ensures { JoinedBytesAreReadOn M.rows }
+{}
+
+/// A scalar field is what the last record of it says, or what stood before where there is none.
+pub fn the_last_scalar_counts<M: Decode, A>()
+    ensures { LastScalarCounts A M.rows }
+{}
+
+/// A singular message is what the joined payloads of its records make of the blank one.
+pub fn a_singular_message_is_its_joined_payloads<M: Decode, N: Decode>()
+    ensures { SingularIsJoined M.rows N.rows N.empty }
+{}
+
+/// A member of a oneof is what the joined payloads of its records behind the last record of another member make of the blank one.
+pub fn a_member_is_its_joined_payloads<M: Decode, N: Decode>()
+    ensures { MemberIsJoined M.rows N.rows N.empty }
+{}
+
+/// Bytes have the fault of the first record which is not whole, or which the value of the records in front of it refuses.
+pub fn the_first_fault_counts<M: Decode>()
+    ensures { FirstFaultCounts M.rows }
 {}

@@ -18,7 +18,11 @@ mod varint;
 
 pub use bytes::Bytes;
 pub use fault::{DecodeFault, WireFault, WireKind, no_member};
-pub use laws::joined_bytes_are_read_on;
+pub use laws::{
+    a_member_is_its_joined_payloads, a_singular_message_is_its_joined_payloads,
+    joined_bytes_are_read_on, the_first_fault_counts, the_last_scalar_counts,
+    varints_are_read,
+};
 pub use list::List;
 pub use memory::{Mem, OutOfMemory, TryClone};
 pub use message::{Decode, Encode, decoded, encoded, last_record};
