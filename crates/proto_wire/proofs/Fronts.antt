@@ -114,7 +114,7 @@ made tag number payload = record { field = tag / 8; wire = tag % 8; number = num
 made-ok : (tag number : ℕ) (p q rest left : List ℕ) → p ≡ q → rest ≡ left → ok {A = Item × List ℕ} (made tag number p, rest) ≡ ok (made tag number q, left)
 made-ok tag number p q rest left h k = rw (h, k) refl
 
-number_in-made : (tag : ℕ) (front more : List ℕ) (number : ℕ) → varint_in (front ++ more) ≡ Ok (number, more) → number_in tag (front ++ more) ≡ Ok (made tag number front, more)
+pub number_in-made : (tag : ℕ) (front more : List ℕ) (number : ℕ) → varint_in (front ++ more) ≡ Ok (number, more) → number_in tag (front ++ more) ≡ Ok (made tag number front, more)
 unfolding number_in
 number_in-made tag front more number h =
     let len : length (front ++ more) - length more ≡ length front = omega (arith, length-append front more) in

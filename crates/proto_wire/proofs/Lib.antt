@@ -8,3 +8,5 @@ pub mod Joined
 pub mod Fields
 pub mod FirstFault
 pub mod Spelled
+pub mod Records
+pub mod Faults

@@ -1,10 +1,12 @@
 -- The wire format over whole byte lists (Protocol Buffers encoding guide), told without a reader.
-use Rattle.std.specs.Prelude.{◌≡◌, ◌≤◌, ◌<◌, ◌⊎◌, ℕ, zero, suc, ◌+◌, ◌*◌, ◌%◌, ◌^◌, Bool, true, false, List, [], ◌∷◌, ◌++◌, length, map}
+use Rattle.std.specs.Prelude.{◌≡◌, ◌≤◌, ◌<◌, ◌⊎◌, ℕ, zero, suc, ◌+◌, ◌*◌, ◌/◌, ◌%◌, ◌^◌, Bool, true, false, List, [], ◌∷◌, ◌++◌, length, take, map}
 use Rattle.std.specs.Prelude.{Option, Some, None, option_map, Result, Ok, Err, All, filter, if◌then◌else◌}
 use Rattle.std.specs.List.{concat, list_any}
 use Rattle.std.specs.Int.{w32, w64, from_le_bytes}
+use Rattle.proto_wire.specs.declared.fault.WireKind.{WireKind}
+use Rattle.proto_wire.specs.declared.fault.WireKind.TheVariants.{Truncated, LongVarint, TagTooLarge, FieldZero, WireType, NotUtf8, NoMember, OverLimit}
 use Rattle.proto_wire.specs.Varint.{ItemFault, ◌>>=◌}
-use Rattle.proto_wire.specs.Record.{Item, is_wire, Scan, Whole, Broken, Then, record_in}
+use Rattle.proto_wire.specs.Record.{Item, is_wire, Scan, Whole, Broken, Then, tag_in, payload_in, record_in}
 use Rattle.proto_wire.specs.Message.{Row, belongs, accepted, value_in, entered}
 
 abbrev pub AreBytes : List ℕ → Type 0
@@ -132,3 +134,65 @@ pub record StopsAt {M : Type 0} (rows : List (Row M)) (old : M) (bytes : List �
   pub so_far : value_in rows old read ≡ Ok value
   pub more : 0 < length left
   pub stops : (record_in left ≡ Err fault) ⊎ IsRefused rows value left fault
+
+-- fewer than ten bytes, each with the high bit
+pub record EndsInside (bytes : List ℕ) : Type 0 where
+  pub short : length bytes < 10
+  pub continued : All (λ b. 128 ≤ b) bytes
+
+-- ten bytes, each with the high bit
+pub record IsOverlong (bytes : List ℕ) : Type 0 where
+  pub long : 10 ≤ length bytes
+  pub continued : All (λ b. 128 ≤ b) (take 10 bytes)
+
+-- the bytes begin with a varint of such a number
+pub record BeginsWith (bytes : List ℕ) (Holds : ℕ → Type 0) : Type 0 where
+  pub number : ℕ
+  pub rest : List ℕ
+  pub begins : Begins bytes number rest
+  pub holds : Holds number
+
+-- what is wrong with a tag
+abbrev pub TagHas : List ℕ → WireKind → Type 0
+TagHas bytes Truncated = EndsInside bytes
+TagHas bytes LongVarint = IsOverlong bytes
+TagHas bytes TagTooLarge = BeginsWith bytes (λ tag. 2 ^ 32 ≤ tag)
+TagHas bytes FieldZero = BeginsWith bytes (λ tag. tag / 8 ≡ 0)
+TagHas bytes WireType = BeginsWith bytes (λ tag. (tag % 8 ≡ 3) ⊎ ((tag % 8 ≡ 4) ⊎ ((tag % 8 ≡ 6) ⊎ (tag % 8 ≡ 7))))
+TagHas bytes kind = ⊥
+
+-- the bytes end inside a payload of this wire type, or what it says is its length passes their end
+pub data EndsInPayload (wire : ℕ) (bytes : List ℕ) : Type 0 where
+  in_varint : wire ≡ 0 → EndsInside bytes → EndsInPayload wire bytes
+  in_eight_bytes : wire ≡ 1 → length bytes < 8 → EndsInPayload wire bytes
+  in_length : wire ≡ 2 → EndsInside bytes → EndsInPayload wire bytes
+  behind_length : wire ≡ 2 → (len : ℕ) (rest : List ℕ) → Begins bytes len rest → length rest < len → EndsInPayload wire bytes
+  in_four_bytes : wire ≡ 5 → length bytes < 4 → EndsInPayload wire bytes
+
+-- what is wrong with a payload of this wire type
+abbrev pub PayloadHas : ℕ → List ℕ → WireKind → Type 0
+PayloadHas wire bytes Truncated = EndsInPayload wire bytes
+PayloadHas wire bytes LongVarint = ((wire ≡ 0) ⊎ (wire ≡ 2)) × IsOverlong bytes
+PayloadHas wire bytes kind = ⊥
+
+-- of several kinds the first counts
+abbrev pub rank : WireKind → ℕ
+rank Truncated = 1
+rank LongVarint = 2
+rank TagTooLarge = 3
+rank FieldZero = 4
+rank WireType = 5
+rank NotUtf8 = 6
+rank NoMember = 7
+rank OverLimit = 8
+
+-- the fault is at the first byte, and of the first kind that the bytes have
+pub record IsFirstFault (bytes : List ℕ) (Has : WireKind → Type 0) (fault : ItemFault) : Type 0 where
+  pub at : fault.left ≡ length bytes
+  pub has : Has fault.kind
+  pub first : (kind : WireKind) → Has kind → rank fault.kind ≤ rank kind
+
+-- the fault of a record: its tag's, else its payload's
+pub data RecordHas (bytes : List ℕ) (fault : ItemFault) : Type 0 where
+  in_tag : tag_in bytes ≡ Err fault → RecordHas bytes fault
+  in_payload : (tag : ℕ) (rest : List ℕ) → tag_in bytes ≡ Ok (tag, rest) → payload_in tag rest ≡ Err fault → RecordHas bytes fault

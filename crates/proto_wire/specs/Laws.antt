@@ -1,9 +1,9 @@
 -- Laws of the wire format (Protocol Buffers encoding guide).
-use Rattle.std.specs.Prelude.{◌≡◌, ◌↔◌, ℕ, Bool, List, [], ◌∷◌, ◌++◌, Result, Ok, Err, Option, Some, None, filter}
+use Rattle.std.specs.Prelude.{◌≡◌, ◌↔◌, ℕ, Bool, true, List, [], ◌∷◌, ◌++◌, ◌%◌, Result, Ok, Err, Option, Some, None, filter}
 use Rattle.proto_wire.specs.Varint.{ItemFault, ◌>>=◌, varint_in}
-use Rattle.proto_wire.specs.Record.{Item, records_in}
+use Rattle.proto_wire.specs.Record.{Item, is_wire, tag_in, payload_in, record_in, records_in}
 use Rattle.proto_wire.specs.Message.{Row, belongs, value_in, last_record}
-use Rattle.proto_wire.specs.Encoding.{AreBytes, Begins, HaveRecords, items_of, IsUnknown, IsScalar, last_says, IsSingular, IsMember, behind_last, joined_value, StopsAt}
+use Rattle.proto_wire.specs.Encoding.{AreBytes, Begins, HaveRecords, items_of, IsUnknown, IsScalar, last_says, IsSingular, IsMember, behind_last, joined_value, StopsAt, TagHas, PayloadHas, IsFirstFault, RecordHas}
 
 -- a varint is read exactly where the bytes begin with one ("Base 128 Varints")
 abbrev pub VarintsAreRead : Type 0
@@ -46,3 +46,15 @@ UnknownChangesNothing {M} rows = (old new : M) (bytes spelling more : List ℕ) 
 -- the first fault of bytes is that of the first record which is not whole, or which the value so far refuses
 abbrev pub FirstFaultCounts : {M : Type 0} → List (Row M) → Type 0
 FirstFaultCounts {M} rows = (old : M) (bytes : List ℕ) (fault : ItemFault) → (value_in rows old bytes ≡ Err fault) ↔ StopsAt rows old bytes fault
+
+-- a tag has the first kind of what is wrong with it, at its first byte
+abbrev pub TagFaultIsFirst : Type 0
+TagFaultIsFirst = (bytes : List ℕ) (fault : ItemFault) → AreBytes bytes → (tag_in bytes ≡ Err fault) ↔ IsFirstFault bytes (TagHas bytes) fault
+
+-- and so has a payload
+abbrev pub PayloadFaultIsFirst : Type 0
+PayloadFaultIsFirst = (tag : ℕ) (bytes : List ℕ) (fault : ItemFault) → AreBytes bytes → is_wire (tag % 8) ≡ true → (payload_in tag bytes ≡ Err fault) ↔ IsFirstFault bytes (PayloadHas (tag % 8) bytes) fault
+
+-- a record has its tag's fault, else its payload's
+abbrev pub RecordFaultIsFirst : Type 0
+RecordFaultIsFirst = (bytes : List ℕ) (fault : ItemFault) → (record_in bytes ≡ Err fault) ↔ RecordHas bytes fault

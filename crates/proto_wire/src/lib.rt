@@ -20,7 +20,9 @@ pub use bytes::Bytes;
 pub use fault::{DecodeFault, WireFault, WireKind, no_member};
 pub use laws::{
     a_member_is_its_joined_payloads, a_singular_message_is_its_joined_payloads,
-    joined_bytes_are_read_on, the_first_fault_counts, the_last_scalar_counts,
+    an_unknown_record_changes_nothing, joined_bytes_are_read_on, records_are_read,
+    records_are_unique, the_first_fault_counts, the_first_fault_of_a_payload_counts,
+    the_first_fault_of_a_record_counts, the_first_fault_of_a_tag_counts, the_last_scalar_counts,
     varints_are_read,
 };
 pub use list::List;
