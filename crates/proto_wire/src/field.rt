@@ -27,11 +27,7 @@ impl Record<'_> {
     {
         match utf8(self.payload) {
             Some(text) => Ok(Text::copy_of(alloc, text)?),
-            None => Err(DecodeFault::Wire(fault_at(
-                WireKind::NotUtf8,
-                self.end,
-                self.payload,
-            ))),
+            None => Err(DecodeFault::Wire(fault_at(WireKind::NotUtf8, self.end, self.payload))),
         }
     }
 
@@ -74,11 +70,7 @@ impl Record<'_> {
     {
         match u32::try_from(self.number) {
             Ok(number) => Ok(number),
-            Err(_) => Err(DecodeFault::Wire(fault_at(
-                WireKind::OverLimit,
-                self.end,
-                self.payload,
-            ))),
+            Err(_) => Err(DecodeFault::Wire(fault_at(WireKind::OverLimit, self.end, self.payload))),
         }
     }
 

@@ -97,14 +97,14 @@ pub fn last_record(field: u32, wire: u8, bytes: &[u8]) -> Result<Option<Record<'
     let mut found = None;
     let mut rest = bytes;
     while !rest.is_empty() {
-        let (record, after) = match record_in(bytes.len(), rest) {
+        let (record, behind) = match record_in(bytes.len(), rest) {
             Ok(read) => read,
             Err(fault) => return Err(fault),
         };
         if record.is(field, wire) {
             found = Some(record);
         }
-        rest = after;
+        rest = behind;
     }
     Ok(found)
 }
