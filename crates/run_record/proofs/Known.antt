@@ -14,8 +14,8 @@ use Rattle.run_record.specs.declared.entry.Reply.{Reply}
 use Rattle.run_record.specs.declared.machine.Machine.{Machine}
 use Rattle.run_record.specs.declared.replaying.Replayed.TheVariants.{State as Reached, NotAllowed}
 use Rattle.run_record.specs.Routing.{splits_in}
-use Rattle.run_record.specs.Machine.{State, first_state, step_after, replayed, served}
-use Rattle.run_record.specs.Laws.{took, step_with, next_record, step_after-with, take_step-some, batch_step-some, replayed-grown, replayed_push_on}
+use Rattle.run_record.specs.Machine.{State, first_state, step_after, replayed, served, took, step_with, next_record}
+use Rattle.run_record.proofs.LawsOfSteps.{step_after-with, take_step-some, batch_step-some, replayed-grown, replayed_push_on}
 use Rattle.run_record.specs.StateOf.{state_of}
 use Rattle.run_record.specs.Replays.{AreListsOf, Replays, StepsOver}
 

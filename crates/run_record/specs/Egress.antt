@@ -1,10 +1,11 @@
 -- What a record gave to the egresses, and the text of it.
-use Rattle.std.specs.Prelude.{◌≡◌, ℕ, ◌+◌, ◌/◌, ◌%◌, nat_lt, List, [], ◌∷◌, ◌++◌, ◌||◌, ◌==◌, map, codes, if◌then◌else◌}
+use Rattle.std.specs.Prelude.{◌≡◌, ℕ, ◌+◌, ◌/◌, ◌%◌, nat_lt, List, [], ◌∷◌, ◌++◌, Bool, ◌&&◌, ◌||◌, ◌==◌, map, filter, codes, if◌then◌else◌}
 use Rattle.std.specs.List.{flat_map}
 use Rattle.typed_values.specs.declared.name.TypeName.{TypeName}
 use Rattle.typed_values.specs.declared.address.Address.{Address}
 use Rattle.typed_values.specs.declared.value.TypedValue.{TypedValue}
 use Rattle.typed_values.specs.declared.record.EgressRecord.{EgressRecord}
+use Rattle.typed_values.specs.Sameness.{same_name, same_address}
 use Rattle.request_reply.specs.declared.answer.EgressMessage.{EgressMessage}
 use Rattle.request_reply.specs.declared.judging.Judged.{Judged}
 use Rattle.request_reply.specs.declared.judging.Judged.TheVariants.{Accept, Flaw}
@@ -30,6 +31,14 @@ records_of_step m (Batch reply) = records_judged reply.address (verdict m.egress
 -- the egress of a record, in its order
 unfoldable pub egress_of : Module → List Entry → List EgressRecord
 egress_of m entries = flat_map (λ entry. records_of_step m entry.step) entries
+
+-- whether an egress record is one of this address to this egress
+abbrev pub is_between : Address → TypeName → EgressRecord → Bool
+is_between address egress r = same_address r.sender address && same_name r.egress egress
+
+-- the arguments of an address' records to an egress, in order
+unfoldable pub arguments_at : Address → TypeName → List EgressRecord → List TypedValue
+arguments_at address egress records = map (λ (r : EgressRecord). r.argument) (filter (is_between address egress) records)
 
 -- ---- the text
 

@@ -30,5 +30,6 @@ pub use laws::{
 pub use machine::Machine;
 pub use merging::merge;
 pub use module::{Endpoint, IngressSpec, Module, TypePattern};
+pub use picking::caller_of;
 pub use replaying::{ReplayFault, Replayed, replay};
 pub use routes::Routes;

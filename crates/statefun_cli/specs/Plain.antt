@@ -9,7 +9,7 @@ use Rattle.run_record.specs.declared.entry.Entry.{Entry}
 use Rattle.typed_values.specs.declared.name.TypeName.{TypeName}
 use Rattle.typed_values.specs.declared.address.Address.{Address}
 use Rattle.run_record.specs.Machine.{State, first_state, replayed}
-use Rattle.run_record.specs.LawsOfEgress.{arguments_at}
+use Rattle.run_record.specs.Egress.{arguments_at, egress_of, egress_text}
 use Rattle.run_record.specs.Backed.{AreBacked}
 use Rattle.run_record.specs.declared.entry.Step.{Step}
 use Rattle.run_record.specs.declared.entry.Step.TheVariants.{Take, Batch}
@@ -19,7 +19,6 @@ use Rattle.request_reply.specs.declared.answer.InvocationResponse.{InvocationRes
 use Rattle.request_reply.specs.declared.judging.Judged.TheVariants.{Accept}
 use Rattle.request_reply.specs.Valid.{verdict}
 use Rattle.statefun_cli.specs.Turns.{Heard, call_in, own_outcome, turns_of}
-use Rattle.run_record.specs.Egress.{egress_of, egress_text}
 use Rattle.statefun_cli.specs.declared.end.PlainEnd.{PlainEnd}
 use Rattle.statefun_cli.specs.declared.end.PlainEnd.TheVariants.{Done, Usage, TurnsSpent, IngressFault, LinkFault, SinkFault, OutOfMemory}
 use Rattle.statefun_cli.specs.Ends.{end_line}

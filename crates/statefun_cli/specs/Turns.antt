@@ -22,7 +22,8 @@ use Rattle.run_record.specs.declared.module.Module.{Module}
 use Rattle.run_record.specs.declared.entry.Entry.{Entry}
 use Rattle.run_record.specs.declared.entry.Step.TheVariants.{Take, Batch}
 use Rattle.run_record.specs.Routing.{letters_of, url_of}
-use Rattle.run_record.specs.Machine.{batch_of, invocation_of}
+use Rattle.request_reply.specs.Letters.{invocation_of}
+use Rattle.run_record.specs.Machine.{batch_of}
 use Rattle.statefun_cli.specs.declared.end.PlainEnd.{PlainEnd}
 use Rattle.statefun_cli.specs.declared.end.PlainEnd.TheVariants.{Done, EndpointFailed}
 
@@ -112,7 +113,7 @@ work_read m turn (Some taken) work = record {
 
 -- the request for a letter: a batch of it alone
 abbrev pub request_for : Letter → ToFunction
-request_for letter = batch_of letter.target [] (invocation_of letter.sender letter.argument ∷ [])
+request_for letter = batch_of letter.target [] (invocation_of letter ∷ [])
 
 abbrev pub start_of : Module → ℕ → Letter → LinkEvent
 start_of m turn letter = Started (call_in turn) (unwrap_or (url_of m letter.target.kind) []) (to_spelling (request_for letter))

@@ -1,2 +1,3 @@
 pub mod Slash
 pub mod Written
+pub mod Orders
