@@ -6,10 +6,10 @@ use Rattle.typed_values.specs.declared.name.TypeName.{TypeName}
 use Rattle.typed_values.specs.declared.letter.Sender.TheVariants.{Split}
 use Rattle.typed_values.specs.declared.letter.Letter.{Letter}
 use Rattle.typed_values.specs.Sameness.{same_bytes, same_name}
+use Rattle.typed_values.specs.Pattern.{same_pattern}
 use Rattle.sf_outside.specs.declared.ingress.IngressRecord.{IngressRecord}
 use Rattle.run_record.specs.declared.module.Module.{Module}
 use Rattle.run_record.specs.declared.module.Endpoint.{Endpoint}
-use Rattle.run_record.specs.declared.module.TypePattern.{TypePattern}
 use Rattle.run_record.specs.declared.module.IngressSpec.{IngressSpec}
 
 -- the number of splits of some ingresses
@@ -50,15 +50,6 @@ endpoint_of m kind = or_else (find (is_exact kind) m.endpoints) (find (is_wide k
 abbrev pub all_apart : {A : Type 0} → (A → A → Bool) → List A → Bool
 all_apart same [] = true
 all_apart same (x ∷ xs) = not (list_any (same x) xs) && all_apart same xs
-
-abbrev pub same_pattern_name : Option (List ℕ) → Option (List ℕ) → Bool
-same_pattern_name None None = true
-same_pattern_name (Some a) (Some b) = same_bytes a b
-same_pattern_name None (Some b) = false
-same_pattern_name (Some a) None = false
-
-abbrev pub same_pattern : TypePattern → TypePattern → Bool
-same_pattern a b = same_bytes a.namespace b.namespace && same_pattern_name a.name b.name
 
 -- at least one letter a batch, one attempt, and one poll for each attempt
 abbrev pub is_usable : Endpoint → Bool

@@ -1,6 +1,6 @@
 //! What a job is made of.
 use proto_wire::{List, Text};
-use typed_values::TypeName;
+use typed_values::{TypeName, TypePattern};
 
 /// A job: its endpoints, ingresses and egresses.
 #[derive(PartialEq, Eq, Drop)]
@@ -8,14 +8,6 @@ pub struct Module {
     pub endpoints: List<Endpoint>,
     pub ingresses: List<IngressSpec>,
     pub egresses: List<TypeName>,
-}
-
-/// The functions of one type, or of all types of a namespace.
-#[derive(PartialEq, Eq, Drop)]
-pub struct TypePattern {
-    pub namespace: Text,
-    /// `None` stands for every name.
-    pub name: Option<Text>,
 }
 
 /// Where functions are called, and how.

@@ -3,7 +3,7 @@ ghost use Rattle.std.specs.Prelude.{◌≡◌, ◌<◌, ◌≤◌, IsTrue, IfOk,
 ghost use Rattle.std.specs.Option.{option_copied};
 ghost use Rattle.run_record.specs.Routing.{is_routable, is_exact, is_wide, endpoint_of, splits_in, ingress_in, targets_of, filled, url_of, letter_of, letters_of};
 
-use crate::{Endpoint, IngressSpec, Module, TypePattern};
+use crate::{Endpoint, IngressSpec, Module};
 use proto_wire::{List, Mem, Same, Text, TryClone};
 use sf_outside::IngressRecord;
 use std::alloc::Global;
