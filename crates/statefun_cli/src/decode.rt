@@ -15,7 +15,7 @@ use sf_outside::{Fault, Sink, Source};
 use std::alloc::Global;
 
 /// What a decoding comes to.
-#[derive(Clone, Copy, Debug, PartialEq, Eq)]
+#[derive(Clone, Copy, Debug)]
 pub enum DecodeEnd {
     /// The lines of the message.
     Decoded,

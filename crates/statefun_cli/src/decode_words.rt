@@ -12,7 +12,7 @@ use std::alloc::Global;
 use std::str::FromStr;
 
 /// A kind of message between the runtime and its functions.
-#[derive(Clone, Copy, Debug, PartialEq, Eq)]
+#[derive(Clone, Copy, Debug)]
 pub enum MessageKind {
     /// A request, which goes to a function.
     Request,
@@ -21,7 +21,7 @@ pub enum MessageKind {
 }
 
 /// A word that names no kind of message.
-#[derive(Clone, Copy, Debug, PartialEq, Eq)]
+#[derive(Clone, Copy, Debug)]
 pub struct UnknownKind;
 
 impl FromStr for MessageKind {

@@ -21,7 +21,7 @@ pub struct Plan {
 }
 
 /// Why words gave no plan.
-#[derive(Clone, Copy, Debug, PartialEq, Eq)]
+#[derive(Clone, Copy, Debug)]
 pub enum WordsFault {
     /// They are wrong from this word on, counted from 0.
     Usage(u32),

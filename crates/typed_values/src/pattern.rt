@@ -3,7 +3,7 @@ use proto_wire::{Mem, Text, TryClone};
 use std::alloc::Global;
 
 /// One type, or all types of a namespace.
-#[derive(PartialEq, Eq, Drop)]
+#[derive(Drop)]
 pub struct TypePattern {
     pub namespace: Text,
     /// `None` stands for every name.
