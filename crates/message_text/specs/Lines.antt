@@ -76,7 +76,8 @@ request_lines (Invocation batch) = batch_lines batch
 
 -- `mutation TYPE NAME VALUE`
 abbrev pub mutation_line : PersistedValueMutation → List ℕ
-mutation_line mutation = codes "mutation " ++ (signed_decimal mutation.mutation_type ++ 32 ∷ (escaped mutation.state_name ++ 32 ∷ (value_part mutation.state_value ++ 10 ∷ [])))
+mutation_line mutation =
+    codes "mutation " ++ (signed_decimal mutation.mutation_type ++ 32 ∷ (escaped mutation.state_name ++ 32 ∷ (value_part mutation.state_value ++ 10 ∷ [])))
 
 -- `message TARGET VALUE`
 abbrev pub message_line : OutgoingInvocation → List ℕ
@@ -107,7 +108,8 @@ egress_message_line message = codes "egress " ++ (egress_name_part message ++ 32
 
 -- `missing NAME TYPENAME MODE MS`
 abbrev pub missing_line : PersistedValueSpec → List ℕ
-missing_line missing = codes "missing " ++ (escaped missing.state_name ++ 32 ∷ (escaped missing.type_typename ++ 32 ∷ (expiry_part missing.expiration_spec ++ 10 ∷ [])))
+missing_line missing =
+    codes "missing " ++ (escaped missing.state_name ++ 32 ∷ (escaped missing.type_typename ++ 32 ∷ (expiry_part missing.expiration_spec ++ 10 ∷ [])))
 
 abbrev pub mutation_lines : List PersistedValueMutation → List ℕ
 mutation_lines mutations = flat_map mutation_line mutations

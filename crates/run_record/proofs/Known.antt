@@ -190,12 +190,6 @@ pub known_on : (told : Option Lists) (m : Module) (entries : List Entry) (place 
 known_on told m entries place entry st inside at known =
     subst (λ es. Known told m es st) (sym (take_more entries place entry inside ∙ ap (λ x. take place entries ++ x ∷ []) (sym at))) known
 
-pub known_end : (told : Option Lists) (m : Module) (entries : List Entry) (place : ℕ) (machine : Machine) → length entries ≤ place → Known told m (take place entries) (state_of machine) → Replays told m entries (Reached machine)
-known_end None m entries place machine all known =
-    record { lists = known.lists; are = tt; is = ap (replayed m known.lists first_state) (sym (take_all place entries all)) ∙ known.replays }
-known_end (Some told) m entries place machine all known =
-    record { lists = known.lists; are = known.follow; is = ap (replayed m known.lists first_state) (sym (take_all place entries all)) ∙ known.replays }
-
 -- ---- growth
 
 pub Grows-itself : (told : Option Lists) → Grows told told

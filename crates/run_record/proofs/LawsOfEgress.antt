@@ -79,11 +79,6 @@ egress_of-replayed m lists st last (entry ∷ entries) h address egress =
 pub egress_of-first : (m : Module) (lists : Lists) (last : State) (entries : List Entry) → replayed m lists first_state entries ≡ Some last → (address : Address) (egress : TypeName) → last.egress address egress ≡ arguments_at address egress (egress_of m entries)
 egress_of-first m lists last entries h address egress = egress_of-replayed m lists first_state last entries h address egress
 
--- records joined
-pub egress_of-append : (m : Module) (entries others : List Entry) → egress_of m (entries ++ others) ≡ egress_of m entries ++ egress_of m others
-unfolding egress_of
-egress_of-append m entries others = flat_map-append (λ (entry : Entry). records_of_step m entry.step) entries others
-
 pub calls_of-append : (entries others : List Entry) → calls_of (entries ++ others) ≡ calls_of entries ++ calls_of others
 calls_of-append [] others = refl
 calls_of-append (entry ∷ entries) others = ap (λ xs. calls_of_step entry.step ++ xs) (calls_of-append entries others) ∙ sym (append_assoc (calls_of_step entry.step) (calls_of entries) (calls_of others))

@@ -119,10 +119,6 @@ replayed-push m lists st entries last = replayed-append m lists st entries (last
     and_then_some None = refl
     and_then_some (Some x) = refl
 
--- at a state that is reached
-pub replayed_on : (m : Module) (lists : Lists) (st next : State) (entries others : List Entry) → replayed m lists st entries ≡ Some next → replayed m lists st (entries ++ others) ≡ replayed m lists next others
-replayed_on m lists st next entries others e = replayed-append m lists st entries others ∙ ap (λ o. option_and_then (λ x. replayed m lists x others) o) e
-
 pub replayed_push_on : (m : Module) (lists : Lists) (st next : State) (entries : List Entry) (last : Entry) → replayed m lists st entries ≡ Some next → replayed m lists st (entries ++ last ∷ []) ≡ step_after m lists next last.step
 replayed_push_on m lists st next entries last e = replayed-push m lists st entries last ∙ ap (λ o. option_and_then (λ x. step_after m lists x last.step) o) e
 

@@ -63,16 +63,6 @@ picked_there target mail picks i pick letters argument inside at there =
     ∙ joined letters (invocation_of (waiting_letter pick target argument)) (picked_behind target (take i picks ++ pick ∷ []) mail (drop (i + 1) picks))
     ∙ ap (λ xs. option_map (λ rest. (letters ++ invocation_of (waiting_letter pick target argument) ∷ []) ++ rest) (picked_behind target xs mail (drop (i + 1) picks))) (sym (take_more picks i pick inside ∙ ap (λ x. take i picks ++ x ∷ []) (sym at)))
 
--- a pick whose letter is not there
-pub picked_not_there : (target : Address) (mail : Sender → List TypedValue) (picks : List Sender) (i : ℕ) (pick : Sender) (letters : List BatchInvocation) → i < length picks → pick ≡ get_or picks i pick → slice_get (mail pick) (count_by (same_sender pick) (take i picks)) ≡ None → picked_on target mail picks i letters ≡ None
-picked_not_there target mail picks i pick letters inside at none =
-    one_pick target mail picks i pick letters inside at
-    ∙ ap (λ o. option_map (λ rest. letters ++ rest) (option_and_then (λ argument. option_and_then (λ others. Some (invocation_of (waiting_letter pick target argument) ∷ others)) (picked_behind target (take i picks ++ pick ∷ []) mail (drop (i + 1) picks))) o)) none
-
-pub picked_all : (target : Address) (mail : Sender → List TypedValue) (picks : List Sender) (i : ℕ) (letters : List BatchInvocation) → length picks ≤ i → picked_on target mail picks i letters ≡ Some letters
-picked_all target mail picks i letters all =
-    ap (λ xs. option_map (λ rest. letters ++ rest) (picked_behind target (take i picks) mail xs)) (drop_all i picks all) ∙ ap Some (append-nil letters)
-
 -- ---- picked letters leave
 
 by_address : (address target : Address) → ((same_address address target ≡ true) × (target ≡ address)) ⊎ ((same_address address target ≡ false) × (target ≡ address → ⊥))
@@ -126,13 +116,3 @@ pick_found target mail picks i pick letters more count argument letter inside at
     so_far
     ∙ picked_there target mail picks i pick letters argument inside at (ap (slice_get (mail pick)) (sym counted) ∙ sym found)
     ∙ ap (picked_on target mail picks (i + 1)) (sym (said ∙ ap (λ x. letters ++ x ∷ []) is))
-
-pub pick_missing : (target : Address) (mail : Sender → List TypedValue) (picks : List Sender) (i : ℕ) (pick : Sender) (letters : List BatchInvocation) (count : ℕ) → i < length picks → pick ≡ get_or picks i pick → count ≡ count_by (same_sender pick) (take i picks) → None ≡ slice_get (mail pick) count → picked target mail picks ≡ picked_on target mail picks i letters → None ≡ picked target mail picks
-pick_missing target mail picks i pick letters count inside at counted missing so_far =
-    sym (so_far ∙ picked_not_there target mail picks i pick letters inside at (ap (slice_get (mail pick)) (sym counted) ∙ sym missing))
-
-pub picked_to_end : (target : Address) (mail : Sender → List TypedValue) (picks : List Sender) (i : ℕ) (letters : List BatchInvocation) → length picks ≤ i → picked target mail picks ≡ picked_on target mail picks i letters → Some letters ≡ picked target mail picks
-picked_to_end target mail picks i letters all so_far = sym (so_far ∙ picked_all target mail picks i letters all)
-
-pub count_fits : (sender : Sender) (picks : List Sender) (i : ℕ) → count_by (same_sender sender) (take i picks) ≤ length picks
-count_fits sender picks i = omega (arith, count_by-le-length (same_sender sender) (take i picks), length-take i picks)

@@ -1,5 +1,6 @@
 -- The sequential machine: its state, its steps, and what a record of steps means.
-use Rattle.std.specs.Prelude.{ℕ, ◌+◌, ◌^◌, ◌<◌, nat_eq, nat_lt, nat_le, List, [], ◌∷◌, ◌++◌, length, Bool, false, ◌&&◌, ◌||◌, if◌then◌else◌, Option, Some, None, map, filter, drop, count_by, slice_get, option_and_then}
+use Rattle.std.specs.Prelude.{ℕ, ◌+◌, ◌^◌, ◌<◌, nat_eq, nat_lt, nat_le, List, [], ◌∷◌, ◌++◌, length, Bool, false, ◌&&◌, ◌||◌, if◌then◌else◌, Option}
+use Rattle.std.specs.Prelude.{Some, None, map, filter, drop, count_by, slice_get, option_and_then}
 use Rattle.std.specs.Option.{option_map}
 use Rattle.std.specs.List.{flat_map}
 use Rattle.typed_values.specs.declared.name.TypeName.{TypeName}
@@ -75,7 +76,10 @@ Mail = Sender → Address → List TypedValue
 
 -- a letter goes last in the mail of its pair
 abbrev pub posted : Mail → Letter → Mail
-posted mail letter = λ sender target. if same_sender letter.sender sender && same_address letter.target target then mail sender target ++ letter.argument ∷ [] else mail sender target
+posted mail letter = λ sender target.
+    if same_sender letter.sender sender && same_address letter.target target
+    then mail sender target ++ letter.argument ∷ []
+    else mail sender target
 
 abbrev pub posted_all : Mail → List Letter → Mail
 posted_all mail [] = mail
@@ -124,7 +128,10 @@ picked target mail picks = picked_behind target [] mail picks
 
 -- the picked letters leave the mail: from the front of each pair to the address, as many as its sender was picked
 abbrev pub unpicked : Address → List Sender → Mail → Mail
-unpicked address picks mail = λ sender target. if same_address address target then drop (count_by (same_sender sender) picks) (mail sender target) else mail sender target
+unpicked address picks mail = λ sender target.
+    if same_address address target
+    then drop (count_by (same_sender sender) picks) (mail sender target)
+    else mail sender target
 
 -- a value of a cell that expires is gone so long after its stamp
 abbrev pub lapsed : Expiry → ℕ → ℕ → ℕ → Bool
@@ -144,7 +151,8 @@ batch_of address cells letters = Invocation (record { target = Some address; sta
 
 -- a batch keeps its endpoint's limits
 abbrev pub is_within : Endpoint → List Sender → ToFunction → Bool
-is_within endpoint picks request = nat_lt 0 (length picks) && nat_le (length picks) endpoint.max_letters && nat_le (length (to_spelling request)) endpoint.max_bytes
+is_within endpoint picks request =
+    nat_lt 0 (length picks) && nat_le (length picks) endpoint.max_letters && nat_le (length (to_spelling request)) endpoint.max_bytes
 
 -- The request to an address at a moment for some picks: all its cells as they are then, and the picked letters.
 -- There is none where a picked letter is not there, the type has no endpoint, or a limit is passed.
@@ -176,7 +184,10 @@ egress_name message = record { namespace = message.egress_namespace; name = mess
 
 -- the records go last in the egress of the address
 abbrev pub emitted : Address → List EgressMessage → (Address → TypeName → List TypedValue) → Address → TypeName → List TypedValue
-emitted address messages egress = λ other name. if same_address address other then egress other name ++ map (λ message. argument_of message.argument) (filter (λ message. same_name (egress_name message) name) messages) else egress other name
+emitted address messages egress = λ other name.
+    if same_address address other
+    then egress other name ++ map (λ message. argument_of message.argument) (filter (λ message. same_name (egress_name message) name) messages)
+    else egress other name
 
 abbrev pub seen_after : Address → ℕ → (Address → ℕ) → Address → ℕ
 seen_after address moment seen = λ other. if same_address address other then moment else seen other

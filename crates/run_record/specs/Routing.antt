@@ -1,5 +1,6 @@
 -- Where things go in a job.
-use Rattle.std.specs.Prelude.{ℕ, ◌+◌, ◌-◌, nat_eq, nat_lt, nat_le, codes, zero, suc, List, [], ◌∷◌, ◌++◌, Bool, true, false, not, ◌&&◌, if◌then◌else◌, Option, Some, None, is_some, map, find}
+use Rattle.std.specs.Prelude.{ℕ, ◌+◌, ◌-◌, nat_eq, nat_lt, nat_le, codes, zero, suc, List, [], ◌∷◌, ◌++◌, Bool, true, false, not, ◌&&◌, if◌then◌else◌}
+use Rattle.std.specs.Prelude.{Option, Some, None, is_some, map, find}
 use Rattle.std.specs.Option.{option_map, option_map_or}
 use Rattle.std.specs.List.{starts_with, list_any, list_all}
 use Rattle.typed_values.specs.declared.name.TypeName.{TypeName}
@@ -76,7 +77,10 @@ is_routable m =
 abbrev pub filled_from : List ℕ → ℕ → List ℕ → List ℕ
 filled_from name skip [] = []
 filled_from name (suc skip) (byte ∷ bytes) = filled_from name skip bytes
-filled_from name zero (byte ∷ bytes) = if starts_with nat_eq (byte ∷ bytes) (codes "{function.name}") then name ++ filled_from name 14 bytes else byte ∷ filled_from name zero bytes
+filled_from name zero (byte ∷ bytes) =
+    if starts_with nat_eq (byte ∷ bytes) (codes "{function.name}")
+    then name ++ filled_from name 14 bytes
+    else byte ∷ filled_from name zero bytes
 
 unfoldable pub filled : List ℕ → List ℕ → List ℕ
 filled name template = filled_from name 0 template

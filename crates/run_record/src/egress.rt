@@ -7,8 +7,8 @@ ghost use Rattle.run_record.specs.Machine.{argument_of};
 use proto_wire::{Bytes, Mem};
 use request_reply::EgressMessage;
 use typed_values::{
-    Address, EgressRecord, TypedValue, put_address_text, put_escaped, put_name_parts, put_name_text,
-    put_value_text,
+    Address, EgressRecord, TypedValue, put_address_text, put_escaped, put_name_parts,
+    put_name_text, put_value_text,
 };
 
 /// Adds the line of an egress record: its sender, egress, typename and value, as words with one blank between them,
