@@ -15,7 +15,8 @@ use Rattle.typed_values.specs.declared.letter.Sender.{Sender}
 use Rattle.typed_values.specs.declared.letter.Sender.TheVariants.{Split, Function}
 use Rattle.typed_values.specs.declared.letter.Letter.{Letter}
 use Rattle.typed_values.specs.declared.record.EgressRecord.{EgressRecord}
-use Rattle.typed_values.specs.Sameness.{same_name, same_address, same_sender, same_name-Decides, same_address-Decides, same_sender-Decides}
+use Rattle.typed_values.specs.Sameness.{same_name, same_address, same_sender}
+use Rattle.typed_values.proofs.Sameness.{same_name-Decides, same_address-Decides, same_sender-Decides}
 use Rattle.request_reply.specs.declared.request.BatchInvocation.{BatchInvocation}
 use Rattle.request_reply.specs.declared.answer.EgressMessage.{EgressMessage}
 use Rattle.request_reply.specs.declared.answer.InvocationResponse.{InvocationResponse}

@@ -10,7 +10,8 @@ use Rattle.typed_values.specs.declared.address.Address.{Address}
 use Rattle.typed_values.specs.declared.value.TypedValue.{TypedValue}
 use Rattle.typed_values.specs.declared.letter.Sender.{Sender}
 use Rattle.typed_values.specs.declared.letter.Letter.{Letter}
-use Rattle.typed_values.specs.Sameness.{same_address, same_sender, same_sender-Decides, same_address-Decides}
+use Rattle.typed_values.specs.Sameness.{same_address, same_sender}
+use Rattle.typed_values.proofs.Sameness.{same_sender-Decides, same_address-Decides}
 use Rattle.sf_outside.specs.Splits.{Lists}
 use Rattle.request_reply.specs.declared.request.ToFunction.{ToFunction}
 use Rattle.request_reply.specs.declared.request.BatchInvocation.{BatchInvocation}

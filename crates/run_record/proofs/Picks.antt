@@ -6,7 +6,8 @@ use Rattle.std.proofs.lemmas.Bool.{false_from_ne_true}
 use Rattle.typed_values.specs.declared.address.Address.{Address}
 use Rattle.typed_values.specs.declared.value.TypedValue.{TypedValue}
 use Rattle.typed_values.specs.declared.letter.Sender.{Sender}
-use Rattle.typed_values.specs.Sameness.{same_address, same_sender, same_sender-Decides, same_address-Decides}
+use Rattle.typed_values.specs.Sameness.{same_address, same_sender}
+use Rattle.typed_values.proofs.Sameness.{same_sender-Decides, same_address-Decides}
 use Rattle.request_reply.specs.declared.request.BatchInvocation.{BatchInvocation}
 use Rattle.run_record.specs.Queues.{ChangesIn, SetsAt}
 use Rattle.run_record.specs.Machine.{Mail, picked_behind, picked, unpicked, waiting_letter}

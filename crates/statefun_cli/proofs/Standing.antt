@@ -8,7 +8,8 @@ use Rattle.typed_values.specs.declared.address.Address.{Address}
 use Rattle.typed_values.specs.declared.value.TypedValue.{TypedValue}
 use Rattle.typed_values.specs.declared.letter.Sender.{Sender}
 use Rattle.typed_values.specs.declared.letter.Letter.{Letter}
-use Rattle.typed_values.specs.Sameness.{same_sender, same_address, same_sender-Decides, same_address-Decides}
+use Rattle.typed_values.specs.Sameness.{same_sender, same_address}
+use Rattle.typed_values.proofs.Sameness.{same_sender-Decides, same_address-Decides}
 use Rattle.run_record.specs.Machine.{Mail, posted, posted_all, unpicked, picked}
 use Rattle.request_reply.specs.Letters.{invocation_of}
 
