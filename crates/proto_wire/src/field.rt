@@ -89,13 +89,18 @@ impl Record<'_> {
     }
 
     /// Takes the payload into the message that stands, or into the blank one. After an `Err` the slot is of no further use.
-    #[tactic(auto, unfolding(crate::specs::Message::entered))]
+    #[tactic(auto, unfolding(crate::specs::Message::entered, crate::specs::Message::joined))]
     pub fn enter<M: Decode>(&self, alloc: Global, slot: &mut Option<M>) -> Result<(), DecodeFault>
         requires inside { IsInside self.now }
         ensures { ChangesAt self.now.end result slot.new (entered M.empty M.rows slot.old (item_of self.now)) }
     {
-        *slot = Some(self.message(alloc, slot.take())?);
-        Ok(())
+        match slot {
+            Some(message) => merge(alloc, message, self.end, self.payload),
+            None => {
+                *slot = Some(self.message(alloc, None)?);
+                Ok(())
+            }
+        }
     }
 
     /// Adds the message of the payload to the list. An `Err` changes nothing.
