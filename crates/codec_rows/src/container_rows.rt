@@ -1,6 +1,6 @@
 //! Rows on byte strings, texts and lists.
 use crate::told::owned;
-use proto_wire::{Bytes, List, Same, Text, TryClone};
+use proto_wire::{Bytes, List, Text, TryClone};
 use row_text::{Failure, bytes_of};
 use std::alloc::Global;
 
@@ -45,14 +45,14 @@ pub(crate) fn first_bytes(alloc: Global, words: &str) -> Result<String, Failure>
 }
 
 /// A list of byte strings, with `|` before each: its length, the items of a copy of it, and whether it is the same as this
-/// copy and as a list with one more item (by `is_same`, and by `==`).
+/// copy and as a list with one more item (by `==`).
 pub(crate) fn listed(alloc: Global, words: &str) -> Result<String, Failure> {
     let list = list_of(alloc, words)?;
     let copy = list.try_clone(alloc)?;
-    let copied = is_same_word(list.is_same(&copy) && list == copy);
+    let copied = is_same_word(list == copy);
     let mut longer = List::of(copy.into_vec());
     longer.push(Bytes::new(alloc))?;
-    let lengthened = is_same_word(list.is_same(&longer) || list == longer);
+    let lengthened = is_same_word(list == longer);
     let items = items_text(alloc, list.as_slice())?;
     let len = list.len();
     let emptiness = emptiness(list.is_empty());

@@ -1,6 +1,6 @@
 //! Rows on names, addresses, values, senders, letters, delayed letters and egress records.
 use crate::told::{owned, spelled};
-use proto_wire::{Bytes, DecodeFault, Same, Text, TryClone};
+use proto_wire::{Bytes, DecodeFault, Text, TryClone};
 use row_text::{Failure, bytes_of};
 use std::alloc::Global;
 use std::cmp::Ordering;
@@ -108,7 +108,7 @@ pub(crate) fn same(alloc: Global, words: &str) -> Result<String, Failure> {
 fn is_same(alloc: Global, first: &[u8], second: &[u8]) -> Result<bool, Failure> {
     let first = decode_letter(alloc, first)?;
     let second = decode_letter(alloc, second)?;
-    Ok(first.is_same(&second))
+    Ok(first == second)
 }
 
 /// How two senders, with `|` between them, are ordered, and whether they are equal.

@@ -21,8 +21,7 @@ use Rattle.request_reply.specs.declared.answer.EgressMessage.{EgressMessage}
 use Rattle.request_reply.specs.declared.answer.InvocationResponse.{InvocationResponse}
 use Rattle.request_reply.specs.declared.answer.ExpirationSpec.{ExpirationSpec}
 use Rattle.request_reply.specs.declared.answer.PersistedValueSpec.{PersistedValueSpec}
-use Rattle.run_record.specs.Egress.{escaped, name_text, address_text, value_text}
-use Rattle.run_record.specs.Machine.{egress_name}
+use Rattle.typed_values.specs.Escape.{escaped, name_text, address_text, value_text}
 
 -- ---- the parts of lines
 
@@ -77,7 +76,8 @@ request_lines (Invocation batch) = batch_lines batch
 
 -- `mutation TYPE NAME VALUE`
 abbrev pub mutation_line : PersistedValueMutation → List ℕ
-mutation_line mutation = codes "mutation " ++ (signed_decimal mutation.mutation_type ++ 32 ∷ (escaped mutation.state_name ++ 32 ∷ (value_part mutation.state_value ++ 10 ∷ [])))
+mutation_line mutation =
+    codes "mutation " ++ (signed_decimal mutation.mutation_type ++ 32 ∷ (escaped mutation.state_name ++ 32 ∷ (value_part mutation.state_value ++ 10 ∷ [])))
 
 -- `message TARGET VALUE`
 abbrev pub message_line : OutgoingInvocation → List ℕ
@@ -98,13 +98,18 @@ delay_line delayed = codes "delay " ++ (signed_decimal delayed.delay_in_ms ++ 32
 abbrev pub delayed_line : DelayedInvocation → List ℕ
 delayed_line delayed = if delayed.is_cancellation_request then cancel_line delayed else delay_line delayed
 
+-- `NAMESPACE/TYPE`
+abbrev pub egress_name_part : EgressMessage → List ℕ
+egress_name_part message = name_text (record { namespace = message.egress_namespace; name = message.egress_type })
+
 -- `egress NAMESPACE/TYPE VALUE`
 abbrev pub egress_message_line : EgressMessage → List ℕ
-egress_message_line message = codes "egress " ++ (name_text (egress_name message) ++ 32 ∷ (value_part message.argument ++ 10 ∷ []))
+egress_message_line message = codes "egress " ++ (egress_name_part message ++ 32 ∷ (value_part message.argument ++ 10 ∷ []))
 
 -- `missing NAME TYPENAME MODE MS`
 abbrev pub missing_line : PersistedValueSpec → List ℕ
-missing_line missing = codes "missing " ++ (escaped missing.state_name ++ 32 ∷ (escaped missing.type_typename ++ 32 ∷ (expiry_part missing.expiration_spec ++ 10 ∷ [])))
+missing_line missing =
+    codes "missing " ++ (escaped missing.state_name ++ 32 ∷ (escaped missing.type_typename ++ 32 ∷ (expiry_part missing.expiration_spec ++ 10 ∷ [])))
 
 abbrev pub mutation_lines : List PersistedValueMutation → List ℕ
 mutation_lines mutations = flat_map mutation_line mutations

@@ -1,23 +1,22 @@
 //! The line of a fault.
 ghost use Rattle.std.specs.Prelude.{◌≡◌, ◌++◌, OnOk, OnErr};
-ghost use Rattle.run_record.specs.Egress.{StartsAs};
+ghost use Rattle.typed_values.specs.Escape.{StartsAs};
 ghost use Rattle.message_text.specs.Lines.{kind_name, fault_line};
 
 use crate::put_decimal;
 use proto_wire::{Bytes, Mem, WireFault, WireKind};
-use std::alloc::Global;
 
 /// Adds the line of a fault: the name of its kind, and its place. An `Err` leaves what stood there with a part of the
 /// line behind it.
 #[tactic(auto, unfolding(crate::specs::Lines::fault_line))]
-pub fn put_fault_line(alloc: Global, into: &mut Bytes, fault: &WireFault) -> Mem<()>
+pub fn put_fault_line(into: &mut Bytes, fault: &WireFault) -> Mem<()>
     ensures ok { OnOk result (into.new ≡ into.old ++ fault_line fault.now) }
     ensures err { OnErr result (StartsAs into.old into.new) }
 {
     into.append(b"fault ")?;
     into.append(kind_name(fault.kind).as_bytes())?;
     into.append(b" at ")?;
-    put_decimal(alloc, into, fault.at as u64)?;
+    put_decimal(into, fault.at as u64)?;
     into.push(b'\n')?;
     Ok(())
 }

@@ -1,19 +1,17 @@
 //! The lines of requests.
 ghost use Rattle.std.specs.Prelude.{◌≡◌, ◌++◌, OnOk, OnErr};
-ghost use Rattle.run_record.specs.Egress.{StartsAs};
+ghost use Rattle.typed_values.specs.Escape.{StartsAs};
 ghost use Rattle.message_text.specs.Lines.{target_line, state_line, letter_line, state_lines, letter_lines, batch_lines, request_lines};
 
 use crate::parts::{put_optional_address, put_value};
 use proto_wire::{Bytes, Mem};
 use request_reply::{BatchInvocation, InvocationBatchRequest, PersistedValue, ToFunction};
-use run_record::put_escaped;
-use std::alloc::Global;
-use typed_values::Address;
+use typed_values::{Address, put_escaped};
 
 /// Adds the lines of a request: its target, its states and its letters. An `Err` leaves what stood there with a part of
-/// the lines behind it. A request has no numbers, and so nothing of it asks for the allocator.
+/// the lines behind it.
 #[tactic(auto, unfolding(crate::specs::Lines::request_lines))]
-pub fn put_request_lines(_alloc: Global, into: &mut Bytes, request: &ToFunction) -> Mem<()>
+pub fn put_request_lines(into: &mut Bytes, request: &ToFunction) -> Mem<()>
     ensures ok { OnOk result (into.new ≡ into.old ++ request_lines request.now) }
     ensures err { OnErr result (StartsAs into.old into.new) }
 {

@@ -77,9 +77,9 @@ enter-behind {M} least row all (next ∷ rows) le up h =
     let ups = both (nat_lt least next.field) (ascends next.field rows) up in
     let lt : least < next.field = ltb-true _ _ ups.0 in
     let other : EntersBy (row ∷ all) next = λ value item e.
-          let is : item.field ≡ next.field = belongs-field next.field next.wire item e in
-          let no : belongs row.field row.wire item ≡ false = belongs-not row.field row.wire item (omega arith) in
-          ap (λ (b : Bool). cond b (row.enters value item) (accepted all value item)) no ∙ h.0 value item e in
+    let is : item.field ≡ next.field = belongs-field next.field next.wire item e in
+    let no : belongs row.field row.wire item ≡ false = belongs-not row.field row.wire item (omega arith) in
+    ap (λ (b : Bool). cond b (row.enters value item) (accepted all value item)) no ∙ h.0 value item e in
     (other, enter-behind next.field row all rows (omega arith) ups.1 h.1)
 
 pub enter-all : {M : Type 0} (least : ℕ) (rows : List (Row M)) → ascends least rows ≡ true → EnterBy rows rows
@@ -429,7 +429,7 @@ lists-step {N = N} rows field tag blank inner again get put lens enters front (v
     let one = message-one field blank inner value again tag f.0 (omega arith) in
     let next : List N = front ++ value ∷ [] in
     let first = one-steps rows field 2 (λ item. value_in inner blank item.payload) _ (put into front) (put into next) value one
-          (enters (put into front) one.item one.belongs_there ∙ rw (lens.there into front, one.says, lens.last into front next) refl) in
+    (enters (put into front) one.item one.belongs_there ∙ rw (lens.there into front, one.says, lens.last into front next) refl) in
     let second = lists-step rows field tag blank inner again get put lens enters next values into f.1 (omega arith) in
     let P : List N → Type 0 = λ vs. Steps rows (put into front) (put into vs) (bytes_record field (spelling inner value) ++ spelled_messages (spelling inner) field values) in
     subst P (append_assoc front (value ∷ []) values) (steps-then rows (put into front) (put into next) (put into (next ++ values)) _ _ first second)

@@ -137,6 +137,7 @@ records_in-step b bytes = next (record_in (b ∷ bytes)) (record_in-leaves (b �
         let tails : bytes ≡ front ++ rest = ap (λ (s : List ℕ). drop 1 s) e in
         let len : length bytes - length rest ≡ length front = omega (arith, ap (λ (s : List ℕ). length s) tails, length-append front rest) in
         rw (len, tails) (records_behind-front front rest)
+
     next : (r : Result (Item × List ℕ) ItemFault) → Leaves 1 (b ∷ bytes) r → then_scan r (λ rest. records_behind (length bytes - length rest) bytes) ≡ then_scan r records_in
     next (Ok read) h = ap (Then read.0 (length read.1)) (skipped h.front read.1 h.is h.some)
     next (Err e) h = refl

@@ -1,10 +1,12 @@
 -- Messages as tables of fields (Protocol Buffers encoding guide).
-use Rattle.std.specs.Prelude.{ℕ, ◌+◌, ◌*◌, ◌%◌, ◌^◌, ◌-◌, min, ℤ, pos, negsuc, Bool, true, false, not, List, [], ◌∷◌, ◌++◌}
+use Rattle.std.specs.Prelude.{ℕ, ◌+◌, ◌*◌, ◌%◌, ◌^◌, ◌-◌, min, ℤ, pos, negsuc, Bool, true, false, not, List, [], ◌∷◌, ◌++◌, length}
 use Rattle.std.specs.Prelude.{Option, Some, None, Result, Ok, Err, nat_lt, ◌==◌, ◌&&◌, if◌then◌else◌}
 use Rattle.std.specs.Int.{w32, w64, cast_signed, cast_unsigned}
 use Rattle.std.specs.Str.{is_utf8}
 use Rattle.proto_wire.specs.declared.fault.WireKind.TheVariants.{NotUtf8, OverLimit}
+use Rattle.proto_wire.specs.declared.fault.WireFault.{WireFault}
 use Rattle.proto_wire.specs.Varint.{ItemFault, ◌>>=◌, fault}
+use Rattle.proto_wire.specs.Places.{located}
 use Rattle.proto_wire.specs.Record.{Item, Scan, Whole, Broken, Then, records_in, number_record, bytes_record, four_record, eight_record}
 
 -- One field of a message: its number, its wire type, how a record of it enters the value, how it is spelled, and whether what it holds has a
@@ -39,6 +41,10 @@ merged rows value (Then item left more) = before left (accepted rows value item)
 -- the value that bytes make of the value that stands
 unfoldable pub value_in : {M : Type 0} → List (Row M) → M → List ℕ → Result M ItemFault
 value_in rows value bytes = merged rows value (records_in bytes)
+
+-- the value that a whole input spells, or its first fault at its place
+abbrev pub value_of : {M : Type 0} → List (Row M) → M → List ℕ → Result M WireFault
+value_of rows blank bytes = located (length bytes) (value_in rows blank bytes)
 
 -- the canonical spelling: the fields in the order of the table
 abbrev pub spelling : {M : Type 0} → List (Row M) → M → List ℕ

@@ -27,11 +27,7 @@ impl Record<'_> {
     {
         match utf8(self.payload) {
             Some(text) => Ok(Text::copy_of(alloc, text)?),
-            None => Err(DecodeFault::Wire(fault_at(
-                WireKind::NotUtf8,
-                self.end,
-                self.payload,
-            ))),
+            None => Err(DecodeFault::Wire(fault_at(WireKind::NotUtf8, self.end, self.payload))),
         }
     }
 
@@ -74,11 +70,7 @@ impl Record<'_> {
     {
         match u32::try_from(self.number) {
             Ok(number) => Ok(number),
-            Err(_) => Err(DecodeFault::Wire(fault_at(
-                WireKind::OverLimit,
-                self.end,
-                self.payload,
-            ))),
+            Err(_) => Err(DecodeFault::Wire(fault_at(WireKind::OverLimit, self.end, self.payload))),
         }
     }
 
@@ -97,13 +89,18 @@ impl Record<'_> {
     }
 
     /// Takes the payload into the message that stands, or into the blank one. After an `Err` the slot is of no further use.
-    #[tactic(auto, unfolding(crate::specs::Message::entered))]
+    #[tactic(auto, unfolding(crate::specs::Message::entered, crate::specs::Message::joined))]
     pub fn enter<M: Decode>(&self, alloc: Global, slot: &mut Option<M>) -> Result<(), DecodeFault>
         requires inside { IsInside self.now }
         ensures { ChangesAt self.now.end result slot.new (entered M.empty M.rows slot.old (item_of self.now)) }
     {
-        *slot = Some(self.message(alloc, slot.take())?);
-        Ok(())
+        match slot {
+            Some(message) => merge(alloc, message, self.end, self.payload),
+            None => {
+                *slot = Some(self.message(alloc, None)?);
+                Ok(())
+            }
+        }
     }
 
     /// Adds the message of the payload to the list. An `Err` changes nothing.

@@ -39,4 +39,4 @@ pub use size::{
     record_size, signed_size,
 };
 pub use text::Text;
-pub use varint::{put_varint, varint_size};
+pub use varint::{put_varint, varint_in, varint_size};

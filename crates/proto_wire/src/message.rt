@@ -1,8 +1,8 @@
 //! Messages: how their records are read, one loop for all, and how they are written.
 ghost use Rattle.std.specs.Prelude.{◌≡◌, ◌≤◌, ◌<◌, ◌^◌, ◌++◌, ◌∷◌, [], ℕ, List, Bool, Some, None, length, IfOk, OnOk, true};
 ghost use Rattle.proto_wire.specs.Reads.{ChangesAt, Gives, Reads};
-ghost use Rattle.proto_wire.specs.Places.{item_of, IsInside, located};
-ghost use Rattle.proto_wire.specs.Message.{Row, accepted, value_in, capped, last_record};
+ghost use Rattle.proto_wire.specs.Places.{item_of, IsInside};
+ghost use Rattle.proto_wire.specs.Message.{Row, accepted, value_in, value_of, capped, last_record};
 ghost use Rattle.std.specs.Option.{option_map};
 
 use crate::record::record_in;
@@ -71,7 +71,7 @@ pub fn merge<M: Decode>(
 
 /// The message that the bytes spell: `Ok` exactly where they spell one, else their first fault.
 pub fn decoded<M: Decode>(alloc: Global, bytes: &[u8]) -> Result<M, DecodeFault>
-    ensures { Gives (λ message. message) result (located (length bytes.now) (value_in M.rows M.empty bytes.now)) }
+    ensures { Gives (λ message. message) result (value_of M.rows M.empty bytes.now) }
 {
     let mut message = M::blank(alloc);
     merge(alloc, &mut message, bytes.len(), bytes)?;
@@ -97,14 +97,14 @@ pub fn last_record(field: u32, wire: u8, bytes: &[u8]) -> Result<Option<Record<'
     let mut found = None;
     let mut rest = bytes;
     while !rest.is_empty() {
-        let (record, after) = match record_in(bytes.len(), rest) {
+        let (record, behind) = match record_in(bytes.len(), rest) {
             Ok(read) => read,
             Err(fault) => return Err(fault),
         };
         if record.is(field, wire) {
             found = Some(record);
         }
-        rest = after;
+        rest = behind;
     }
     Ok(found)
 }

@@ -28,13 +28,16 @@ pub fn fault_at(kind: WireKind, end: usize, bytes: &[u8]) -> WireFault
 }
 
 /// Reads the varint at the front of bytes that end at the place `end`: its number, modulo 2^64, and the bytes behind it.
-#[tactic(auto, unfolding(crate::specs::Varint::varint_in))]
+#[tactic(auto, unfolding(crate::specs::Varint::varint_in, crate::specs::Varint::groups))]
 pub fn varint_in(end: usize, bytes: &[u8]) -> Result<(u64, &[u8]), WireFault>
     requires inside { length bytes.now ≤ end }
     ensures reads { Reads end (λ x. (x.0, x.1.now)) result (varint_in bytes.now) }
     ensures shorter { IfOk result (λ x. length x.1.now < length bytes.now) }
 {
-    groups_in(end, place(end, bytes), 10, bytes)
+    match bytes {
+        [byte, rest @ ..] if *byte < 128 => Ok((u64::from(*byte), rest)),
+        _ => groups_in(end, place(end, bytes), 10, bytes),
+    }
 }
 
 #[tactic(auto, unfolding(crate::specs::Varint::groups))]
@@ -96,11 +99,14 @@ fn groups_size(more: u32, value: u64) -> u64
 }
 
 /// Adds the shortest varint of a number at the end. An `Err` changes nothing.
-#[tactic(auto, unfolding(crate::specs::Varint::varint))]
+#[tactic(auto, unfolding(crate::specs::Varint::varint, crate::specs::Varint::groups_of))]
 pub fn put_varint(into: &mut Bytes, value: u64) -> Mem<()>
     ensures ok { OnOk result (into.new ≡ into.old ++ varint value) }
     ensures err { OnErr result (into.new ≡ into.old) }
 {
+    if value < 128 {
+        return into.push(value as u8);
+    }
     let len = into.len();
     let put = put_groups(into, 9, value);
     if put.is_err() {

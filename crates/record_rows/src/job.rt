@@ -3,9 +3,9 @@ ghost use Rattle.std.specs.Prelude.{◌≡◌, IfOk, IsTrue, codes};
 ghost use Rattle.run_record.specs.Routing.{is_routable};
 
 use proto_wire::{List, Mem, Text};
-use run_record::{Endpoint, IngressSpec, Module, Routes, TypePattern};
+use run_record::{Endpoint, IngressSpec, Module, Routes};
 use std::alloc::Global;
-use typed_values::{Address, TypeName};
+use typed_values::{Address, TypeName, TypePattern};
 
 /// A name of the job's namespace `n`.
 pub(crate) fn name(alloc: Global, name: &str) -> Mem<TypeName>

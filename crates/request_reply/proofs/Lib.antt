@@ -1,4 +1,4 @@
-pub mod Signed
+pub mod Puts
 pub mod RoundTrip
 pub mod Counts
 pub mod Pieces

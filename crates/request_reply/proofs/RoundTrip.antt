@@ -32,10 +32,13 @@ invocation-again = again empty_batch_invocation batch_invocation_rows refl
 
 batch-again : IsAgain empty_batch batch_rows
 unfolding batch_rows empty_batch
-batch-again = again empty_batch batch_rows refl
-    (messages-copies 1 refl empty_address address_rows address-again _ _ (λ into. refl),
-    (lists-copies 2 refl empty_persisted_value persisted_value_rows persisted-again _ _ (record { there = λ into values. refl; last = λ into values others. refl }),
-    (lists-copies 3 refl empty_batch_invocation batch_invocation_rows invocation-again _ _ (record { there = λ into values. refl; last = λ into values others. refl }), tt)))
+batch-again = again empty_batch batch_rows refl (
+  messages-copies 1 refl empty_address address_rows address-again _ _ (λ into. refl),
+  (
+    lists-copies 2 refl empty_persisted_value persisted_value_rows persisted-again _ _ (record { there = λ into values. refl; last = λ into values others. refl }),
+    (lists-copies 3 refl empty_batch_invocation batch_invocation_rows invocation-again _ _ (record { there = λ into values. refl; last = λ into values others. refl }), tt),
+  ),
+)
     (λ v. (refl, (refl, (refl, refl))))
 
 -- ---- answers
@@ -53,10 +56,16 @@ outgoing-again = again empty_outgoing outgoing_rows refl
 
 delayed-again : IsAgain empty_delayed delayed_rows
 unfolding delayed_rows empty_delayed
-delayed-again = again empty_delayed delayed_rows refl
-    (longs-copies 1 refl _ (λ it new. record it { delay_in_ms = new }),
-    (messages-copies 2 refl empty_address address_rows address-again _ _ (λ into. refl), (messages-copies 3 refl empty_value value_rows value-again _ _ (λ into. refl),
-    (bools-copies 10 refl _ (λ it new. record it { is_cancellation_request = new }), (texts-copies 11 refl _ _, tt)))))
+delayed-again = again empty_delayed delayed_rows refl (
+  longs-copies 1 refl _ (λ it new. record it { delay_in_ms = new }),
+  (
+    messages-copies 2 refl empty_address address_rows address-again _ _ (λ into. refl),
+    (
+      messages-copies 3 refl empty_value value_rows value-again _ _ (λ into. refl),
+      (bools-copies 10 refl _ (λ it new. record it { is_cancellation_request = new }), (texts-copies 11 refl _ _, tt)),
+    ),
+  ),
+)
     (λ v. (refl, (refl, (refl, (refl, (refl, refl))))))
 
 egress-again : IsAgain empty_egress_message egress_message_rows
@@ -66,11 +75,16 @@ egress-again = again empty_egress_message egress_message_rows refl
 
 response-again : IsAgain empty_response response_rows
 unfolding response_rows empty_response
-response-again = again empty_response response_rows refl
-    (lists-copies 1 refl empty_mutation mutation_rows mutation-again _ _ (record { there = λ into values. refl; last = λ into values others. refl }),
-    (lists-copies 2 refl empty_outgoing outgoing_rows outgoing-again _ _ (record { there = λ into values. refl; last = λ into values others. refl }),
-    (lists-copies 3 refl empty_delayed delayed_rows delayed-again _ _ (record { there = λ into values. refl; last = λ into values others. refl }),
-    (lists-copies 4 refl empty_egress_message egress_message_rows egress-again _ _ (record { there = λ into values. refl; last = λ into values others. refl }), tt))))
+response-again = again empty_response response_rows refl (
+  lists-copies 1 refl empty_mutation mutation_rows mutation-again _ _ (record { there = λ into values. refl; last = λ into values others. refl }),
+  (
+    lists-copies 2 refl empty_outgoing outgoing_rows outgoing-again _ _ (record { there = λ into values. refl; last = λ into values others. refl }),
+    (
+      lists-copies 3 refl empty_delayed delayed_rows delayed-again _ _ (record { there = λ into values. refl; last = λ into values others. refl }),
+      (lists-copies 4 refl empty_egress_message egress_message_rows egress-again _ _ (record { there = λ into values. refl; last = λ into values others. refl }), tt),
+    ),
+  ),
+)
     (λ v. (refl, (refl, (refl, (refl, refl)))))
 
 expiration-again : IsAgain empty_expiration expiration_rows

@@ -53,7 +53,7 @@ impl Encode for PersistedValueMutation {
             .saturating_add(message_size(3, &self.state_value))
     }
 
-    #[tactic(auto, using(crate::proofs::Signed::signed), unfolding(crate::specs::AnswerTables::mutation_rows))]
+    #[tactic(auto, using(crate::proofs::Puts::put_steps), unfolding(crate::specs::AnswerTables::mutation_rows))]
     fn put(&self, into: Bytes) -> Mem<Bytes> {
         let into = with_enum(into, 1, self.mutation_type)?;
         let into = with_text(into, 2, &self.state_name)?;
@@ -95,7 +95,7 @@ impl Encode for OutgoingInvocation {
         message_size(1, &self.target).saturating_add(message_size(2, &self.argument))
     }
 
-    #[tactic(auto, unfolding(crate::specs::AnswerTables::outgoing_rows))]
+    #[tactic(auto, using(crate::proofs::Puts::put_steps), unfolding(crate::specs::AnswerTables::outgoing_rows))]
     fn put(&self, into: Bytes) -> Mem<Bytes> {
         let into = with_message(into, 1, &self.target)?;
         with_message(into, 2, &self.argument)
@@ -149,7 +149,7 @@ impl Encode for DelayedInvocation {
             .saturating_add(bytes_size(11, self.cancellation_token.as_bytes()))
     }
 
-    #[tactic(auto, using(crate::proofs::Signed::signed), unfolding(crate::specs::AnswerTables::delayed_rows))]
+    #[tactic(auto, using(crate::proofs::Puts::put_steps), unfolding(crate::specs::AnswerTables::delayed_rows))]
     fn put(&self, into: Bytes) -> Mem<Bytes> {
         let into = with_long(into, 1, self.delay_in_ms)?;
         let into = with_message(into, 2, &self.target)?;
@@ -198,7 +198,7 @@ impl Encode for EgressMessage {
             .saturating_add(message_size(3, &self.argument))
     }
 
-    #[tactic(auto, unfolding(crate::specs::AnswerTables::egress_message_rows))]
+    #[tactic(auto, using(crate::proofs::Puts::put_steps), unfolding(crate::specs::AnswerTables::egress_message_rows))]
     fn put(&self, into: Bytes) -> Mem<Bytes> {
         let into = with_text(into, 1, &self.egress_namespace)?;
         let into = with_text(into, 2, &self.egress_type)?;
@@ -249,7 +249,7 @@ impl Encode for InvocationResponse {
             .saturating_add(messages_size(4, self.outgoing_egresses.as_slice()))
     }
 
-    #[tactic(auto, unfolding(crate::specs::AnswerTables::response_rows))]
+    #[tactic(auto, using(crate::proofs::Puts::put_steps), unfolding(crate::specs::AnswerTables::response_rows))]
     fn put(&self, into: Bytes) -> Mem<Bytes> {
         let into = with_messages(into, 1, self.state_mutations.as_slice())?;
         let into = with_messages(into, 2, self.outgoing_messages.as_slice())?;
@@ -295,7 +295,7 @@ impl Encode for ExpirationSpec {
         ))
     }
 
-    #[tactic(auto, using(crate::proofs::Signed::signed), unfolding(crate::specs::AnswerTables::expiration_rows))]
+    #[tactic(auto, using(crate::proofs::Puts::put_steps), unfolding(crate::specs::AnswerTables::expiration_rows))]
     fn put(&self, into: Bytes) -> Mem<Bytes> {
         let into = with_enum(into, 1, self.mode)?;
         with_long(into, 2, self.expire_after_millis)
@@ -341,7 +341,7 @@ impl Encode for PersistedValueSpec {
             .saturating_add(bytes_size(3, self.type_typename.as_bytes()))
     }
 
-    #[tactic(auto, unfolding(crate::specs::AnswerTables::value_spec_rows))]
+    #[tactic(auto, using(crate::proofs::Puts::put_steps), unfolding(crate::specs::AnswerTables::value_spec_rows))]
     fn put(&self, into: Bytes) -> Mem<Bytes> {
         let into = with_text(into, 1, &self.state_name)?;
         let into = with_message(into, 2, &self.expiration_spec)?;
@@ -380,7 +380,7 @@ impl Encode for IncompleteInvocationContext {
         messages_size(1, self.missing_values.as_slice())
     }
 
-    #[tactic(auto, unfolding(crate::specs::AnswerTables::context_rows))]
+    #[tactic(auto, using(crate::proofs::Puts::put_steps), unfolding(crate::specs::AnswerTables::context_rows))]
     fn put(&self, into: Bytes) -> Mem<Bytes> {
         with_messages(into, 1, self.missing_values.as_slice())
     }

@@ -44,7 +44,7 @@ impl Encode for PersistedValue {
         bytes_size(1, self.state_name.as_bytes()).saturating_add(message_size(2, &self.state_value))
     }
 
-    #[tactic(auto, unfolding(crate::specs::RequestTables::persisted_value_rows))]
+    #[tactic(auto, using(crate::proofs::Puts::put_steps), unfolding(crate::specs::RequestTables::persisted_value_rows))]
     fn put(&self, into: Bytes) -> Mem<Bytes> {
         let into = with_text(into, 1, &self.state_name)?;
         with_message(into, 2, &self.state_value)
@@ -85,7 +85,7 @@ impl Encode for BatchInvocation {
         message_size(1, &self.caller).saturating_add(message_size(2, &self.argument))
     }
 
-    #[tactic(auto, unfolding(crate::specs::RequestTables::batch_invocation_rows))]
+    #[tactic(auto, using(crate::proofs::Puts::put_steps), unfolding(crate::specs::RequestTables::batch_invocation_rows))]
     fn put(&self, into: Bytes) -> Mem<Bytes> {
         let into = with_message(into, 1, &self.caller)?;
         with_message(into, 2, &self.argument)
@@ -131,7 +131,7 @@ impl Encode for InvocationBatchRequest {
             .saturating_add(messages_size(3, self.invocations.as_slice()))
     }
 
-    #[tactic(auto, unfolding(crate::specs::RequestTables::batch_rows))]
+    #[tactic(auto, using(crate::proofs::Puts::put_steps), unfolding(crate::specs::RequestTables::batch_rows))]
     fn put(&self, into: Bytes) -> Mem<Bytes> {
         let into = with_message(into, 1, &self.target)?;
         let into = with_messages(into, 2, self.state.as_slice())?;

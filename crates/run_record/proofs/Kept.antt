@@ -15,7 +15,8 @@ use Rattle.typed_values.specs.declared.letter.Sender.{Sender}
 use Rattle.typed_values.specs.declared.letter.Sender.TheVariants.{Split, Function}
 use Rattle.typed_values.specs.declared.letter.Letter.{Letter}
 use Rattle.typed_values.specs.declared.record.EgressRecord.{EgressRecord}
-use Rattle.typed_values.specs.Sameness.{same_name, same_address, same_sender, same_name-Decides, same_address-Decides, same_sender-Decides}
+use Rattle.typed_values.specs.Sameness.{same_name, same_address, same_sender}
+use Rattle.typed_values.proofs.Sameness.{same_name-Decides, same_address-Decides, same_sender-Decides}
 use Rattle.request_reply.specs.declared.request.BatchInvocation.{BatchInvocation}
 use Rattle.request_reply.specs.declared.answer.EgressMessage.{EgressMessage}
 use Rattle.request_reply.specs.declared.answer.InvocationResponse.{InvocationResponse}
@@ -24,17 +25,18 @@ use Rattle.sf_outside.specs.declared.ingress.IngressRecord.{IngressRecord}
 use Rattle.run_record.specs.declared.module.Module.{Module}
 use Rattle.run_record.specs.declared.entry.Reply.{Reply}
 use Rattle.run_record.specs.Routing.{letters_of}
-use Rattle.run_record.specs.Laws.{took}
+use Rattle.run_record.specs.Machine.{took, Mail, posted_all, emitted, egress_name, picked_behind, picked, unpicked, letters_from, seen_after, served, taken_after, waiting_letter}
+use Rattle.request_reply.specs.Letters.{invocation_of}
 use Rattle.run_record.proofs.Picks.{count-push}
 use Rattle.run_record.specs.declared.machine.Machine.{Machine}
 use Rattle.run_record.specs.declared.shelves.Placed.{Placed}
-use Rattle.run_record.specs.Keys.{name_order, address_order, sender_order, exact_names, exact_addresses, exact_senders}
+use Rattle.typed_values.proofs.Orders.{exact_names, exact_addresses, exact_senders}
+use Rattle.run_record.specs.Keys.{name_order, address_order, sender_order}
 use Rattle.run_record.specs.Queues.{values_at, HasBehind, is_placed, SetsAt}
-use Rattle.run_record.specs.Machine.{Mail, posted_all, emitted, egress_name, invocation_of, picked_behind, picked, unpicked, letters_from, seen_after, served, taken_after}
-use Rattle.run_record.specs.Egress.{egress_record}
+use Rattle.run_record.specs.Egress.{egress_record, is_between, arguments_at}
 use Rattle.run_record.specs.Deliveries.{arguments_of}
-use Rattle.run_record.specs.LawsOfEgress.{is_between, arguments_at, emitted_is}
-use Rattle.run_record.specs.LawsOfMail.{posted_all-is}
+use Rattle.run_record.proofs.LawsOfEgress.{emitted_is}
+use Rattle.run_record.proofs.LawsOfMail.{posted_all-is}
 use Rattle.run_record.specs.StateOf.{mail_of, egress_in, moment_in, state_of, placed_letter, placed_message}
 
 -- ---- the orders test sameness
@@ -107,13 +109,13 @@ some_from_and_then f (Some x) y h = (x, refl, h)
 
 -- ---- picked letters are there
 
-enough : (mail : Sender → List TypedValue) (before picks : List Sender) (letters : List BatchInvocation) → ((sender : Sender) → count_by (same_sender sender) before ≤ length (mail sender)) → picked_behind before mail picks ≡ Some letters → (sender : Sender) → count_by (same_sender sender) before + count_by (same_sender sender) picks ≤ length (mail sender)
-enough mail before [] letters there h sender = omega (arith, there sender)
-enough mail before (pick ∷ picks) letters there h sender =
-    let got = some_from_and_then (λ argument. option_and_then (λ others. Some (invocation_of pick argument ∷ others)) (picked_behind (before ++ pick ∷ []) mail picks)) (slice_get (mail pick) (count_by (same_sender pick) before)) letters h in
-    let gave = some_from_and_then (λ others. Some (invocation_of pick got.0 ∷ others)) (picked_behind (before ++ pick ∷ []) mail picks) letters got.2 in
+enough : (target : Address) (mail : Sender → List TypedValue) (before picks : List Sender) (letters : List BatchInvocation) → ((sender : Sender) → count_by (same_sender sender) before ≤ length (mail sender)) → picked_behind target before mail picks ≡ Some letters → (sender : Sender) → count_by (same_sender sender) before + count_by (same_sender sender) picks ≤ length (mail sender)
+enough target mail before [] letters there h sender = omega (arith, there sender)
+enough target mail before (pick ∷ picks) letters there h sender =
+    let got = some_from_and_then (λ argument. option_and_then (λ others. Some (invocation_of (waiting_letter pick target argument) ∷ others)) (picked_behind target (before ++ pick ∷ []) mail picks)) (slice_get (mail pick) (count_by (same_sender pick) before)) letters h in
+    let gave = some_from_and_then (λ others. Some (invocation_of (waiting_letter pick target got.0) ∷ others)) (picked_behind target (before ++ pick ∷ []) mail picks) letters got.2 in
     let inside = slice_get_within (mail pick) (count_by (same_sender pick) before) got.0 got.1 in
-    let rest = enough mail (before ++ pick ∷ []) picks gave.0 (λ other. one_more other (same_sender other pick) refl inside) gave.1 sender in
+    let rest = enough target mail (before ++ pick ∷ []) picks gave.0 (λ other. one_more other (same_sender other pick) refl inside) gave.1 sender in
     let here = count-push sender pick before in
     let cons = sum_by-cons (λ x. cond (same_sender sender x) 1 0) pick picks in
     omega arith
@@ -128,16 +130,16 @@ enough mail before (pick ∷ picks) letters there h sender =
         let push = count-push other pick before ∙ ap (λ b. count_by (same_sender other) before + cond b 1 0) e in
         omega (arith, there other)
 
-pub picks_are_there : (mail : Sender → List TypedValue) (picks : List Sender) → IsSome (picked mail picks) → (sender : Sender) → count_by (same_sender sender) picks ≤ length (mail sender)
+pub picks_are_there : (target : Address) (mail : Sender → List TypedValue) (picks : List Sender) → IsSome (picked target mail picks) → (sender : Sender) → count_by (same_sender sender) picks ≤ length (mail sender)
 unfolding picked
-picks_are_there mail picks is sender = go (picked_behind [] mail picks) refl is
+picks_are_there target mail picks is sender = go (picked_behind target [] mail picks) refl is
   where
-    go : (o : Option (List BatchInvocation)) → picked_behind [] mail picks ≡ o → IsSome o → count_by (same_sender sender) picks ≤ length (mail sender)
+    go : (o : Option (List BatchInvocation)) → picked_behind target [] mail picks ≡ o → IsSome o → count_by (same_sender sender) picks ≤ length (mail sender)
     go None e is = absurd cc
-    go (Some letters) e is = omega (arith, enough mail [] picks letters (λ other. omega arith) e sender)
+    go (Some letters) e is = omega (arith, enough target mail [] picks letters (λ other. omega arith) e sender)
 
 -- letters that are posted before picked ones leave stand as if they had been posted behind
-pub posted_before : (address : Address) (picks : List Sender) (letters : List Letter) (before posted left : Mail) → IsSome (picked (λ sender. before sender address) picks) → ((sender : Sender) (target : Address) → posted sender target ≡ posted_all before letters sender target) → ((sender : Sender) (target : Address) → left sender target ≡ unpicked address picks posted sender target) → (sender : Sender) (target : Address) → left sender target ≡ posted_all (unpicked address picks before) letters sender target
+pub posted_before : (address : Address) (picks : List Sender) (letters : List Letter) (before posted left : Mail) → IsSome (picked address (λ sender. before sender address) picks) → ((sender : Sender) (target : Address) → posted sender target ≡ posted_all before letters sender target) → ((sender : Sender) (target : Address) → left sender target ≡ unpicked address picks posted sender target) → (sender : Sender) (target : Address) → left sender target ≡ posted_all (unpicked address picks before) letters sender target
 posted_before address picks letters before posted left there was is sender target =
     is sender target ∙ go (same_address address target) refl ∙ sym (posted_all-is (unpicked address picks before) letters sender target)
   where
@@ -148,7 +150,7 @@ posted_before address picks letters before posted left there was is sender targe
     go false e = here
     go true e =
         let same = (same_address-Decides address target).0 e in
-        let long : count_by (same_sender sender) picks ≤ length (before sender target) = subst (λ a. count_by (same_sender sender) picks ≤ length (before sender a)) same (picks_are_there (λ s. before s address) picks there sender) in
+        let long : count_by (same_sender sender) picks ≤ length (before sender target) = subst (λ a. count_by (same_sender sender) picks ≤ length (before sender a)) same (picks_are_there address (λ s. before s address) picks there sender) in
         ap (drop (count_by (same_sender sender) picks)) here ∙ drop-append-le (count_by (same_sender sender) picks) (before sender target) (arguments_of sender target letters) long
 
 pub seen_set : (address : Address) (moment : ℕ) (before after : Address → ℕ) → SetsAt before after address moment → (other : Address) → after other ≡ seen_after address moment before other

@@ -14,8 +14,8 @@ use Rattle.run_record.specs.declared.entry.Reply.{Reply}
 use Rattle.run_record.specs.declared.machine.Machine.{Machine}
 use Rattle.run_record.specs.declared.replaying.Replayed.TheVariants.{State as Reached, NotAllowed}
 use Rattle.run_record.specs.Routing.{splits_in}
-use Rattle.run_record.specs.Machine.{State, first_state, step_after, replayed, served}
-use Rattle.run_record.specs.Laws.{took, step_with, next_record, step_after-with, take_step-some, batch_step-some, replayed-grown, replayed_push_on}
+use Rattle.run_record.specs.Machine.{State, first_state, step_after, replayed, served, took, step_with, next_record}
+use Rattle.run_record.proofs.LawsOfSteps.{step_after-with, take_step-some, batch_step-some, replayed-grown, replayed_push_on}
 use Rattle.run_record.specs.StateOf.{state_of}
 use Rattle.run_record.specs.Replays.{AreListsOf, Replays, StepsOver}
 
@@ -189,12 +189,6 @@ stuck_at told m entries st place entry inside at stuck =
 pub known_on : (told : Option Lists) (m : Module) (entries : List Entry) (place : ℕ) (entry : Entry) (st : State) → place < length entries → entry ≡ get_or entries place entry → Known told m (take place entries ++ entry ∷ []) st → Known told m (take (place + 1) entries) st
 known_on told m entries place entry st inside at known =
     subst (λ es. Known told m es st) (sym (take_more entries place entry inside ∙ ap (λ x. take place entries ++ x ∷ []) (sym at))) known
-
-pub known_end : (told : Option Lists) (m : Module) (entries : List Entry) (place : ℕ) (machine : Machine) → length entries ≤ place → Known told m (take place entries) (state_of machine) → Replays told m entries (Reached machine)
-known_end None m entries place machine all known =
-    record { lists = known.lists; are = tt; is = ap (replayed m known.lists first_state) (sym (take_all place entries all)) ∙ known.replays }
-known_end (Some told) m entries place machine all known =
-    record { lists = known.lists; are = known.follow; is = ap (replayed m known.lists first_state) (sym (take_all place entries all)) ∙ known.replays }
 
 -- ---- growth
 

@@ -1,3 +1,6 @@
+pub mod LawsOfSteps
+pub mod LawsOfEgress
+pub mod LawsOfMail
 pub mod Behind
 pub mod Templates
 pub mod Picks

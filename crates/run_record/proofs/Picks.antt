@@ -6,10 +6,12 @@ use Rattle.std.proofs.lemmas.Bool.{false_from_ne_true}
 use Rattle.typed_values.specs.declared.address.Address.{Address}
 use Rattle.typed_values.specs.declared.value.TypedValue.{TypedValue}
 use Rattle.typed_values.specs.declared.letter.Sender.{Sender}
-use Rattle.typed_values.specs.Sameness.{same_address, same_sender, same_sender-Decides, same_address-Decides}
+use Rattle.typed_values.specs.Sameness.{same_address, same_sender}
+use Rattle.typed_values.proofs.Sameness.{same_sender-Decides, same_address-Decides}
 use Rattle.request_reply.specs.declared.request.BatchInvocation.{BatchInvocation}
 use Rattle.run_record.specs.Queues.{ChangesIn, SetsAt}
-use Rattle.run_record.specs.Machine.{Mail, invocation_of, picked_behind, picked, unpicked}
+use Rattle.run_record.specs.Machine.{Mail, picked_behind, picked, unpicked, waiting_letter}
+use Rattle.request_reply.specs.Letters.{invocation_of}
 
 -- how often a sender is picked, one pick further on
 pub count-push : (sender pick : Sender) (picks : List Sender) → count_by (same_sender sender) (picks ++ pick ∷ []) ≡ count_by (same_sender sender) picks + cond (same_sender sender pick) 1 0
@@ -34,13 +36,13 @@ count-beside picks i pick other inside at apart =
     ∙ count-push other pick (take i picks) ∙ ap (λ b. count_by (same_sender other) (take i picks) + cond b 1 0) (same_other other pick apart) ∙ omega arith
 
 -- the letters so far, and those of the picks that are left
-abbrev pub picked_on : (Sender → List TypedValue) → List Sender → ℕ → List BatchInvocation → Option (List BatchInvocation)
-picked_on mail picks i letters = option_map (λ rest. letters ++ rest) (picked_behind (take i picks) mail (drop i picks))
+abbrev pub picked_on : Address → (Sender → List TypedValue) → List Sender → ℕ → List BatchInvocation → Option (List BatchInvocation)
+picked_on target mail picks i letters = option_map (λ rest. letters ++ rest) (picked_behind target (take i picks) mail (drop i picks))
 
 -- before the first pick
-pub picked_none : (mail : Sender → List TypedValue) (picks : List Sender) → picked mail picks ≡ picked_on mail picks 0 []
+pub picked_none : (target : Address) (mail : Sender → List TypedValue) (picks : List Sender) → picked target mail picks ≡ picked_on target mail picks 0 []
 unfolding picked
-picked_none mail picks = same (picked_behind [] mail picks)
+picked_none target mail picks = same (picked_behind target [] mail picks)
   where
     same : (o : Option (List BatchInvocation)) → o ≡ option_map (λ rest. [] ++ rest) o
     same None = refl
@@ -50,27 +52,17 @@ joined : (letters : List BatchInvocation) (letter : BatchInvocation) (o : Option
 joined letters letter None = refl
 joined letters letter (Some rest) = ap Some (sym (append_assoc letters (letter ∷ []) rest))
 
-one_pick : (mail : Sender → List TypedValue) (picks : List Sender) (i : ℕ) (pick : Sender) (letters : List BatchInvocation) → i < length picks → pick ≡ get_or picks i pick → picked_on mail picks i letters ≡ option_map (λ rest. letters ++ rest) (option_and_then (λ argument. option_and_then (λ others. Some (invocation_of pick argument ∷ others)) (picked_behind (take i picks ++ pick ∷ []) mail (drop (i + 1) picks))) (slice_get (mail pick) (count_by (same_sender pick) (take i picks))))
-one_pick mail picks i pick letters inside at =
-    ap (λ xs. option_map (λ rest. letters ++ rest) (picked_behind (take i picks) mail xs)) (drop_more picks i pick inside ∙ ap (λ x. x ∷ drop (i + 1) picks) (sym at))
+one_pick : (target : Address) (mail : Sender → List TypedValue) (picks : List Sender) (i : ℕ) (pick : Sender) (letters : List BatchInvocation) → i < length picks → pick ≡ get_or picks i pick → picked_on target mail picks i letters ≡ option_map (λ rest. letters ++ rest) (option_and_then (λ argument. option_and_then (λ others. Some (invocation_of (waiting_letter pick target argument) ∷ others)) (picked_behind target (take i picks ++ pick ∷ []) mail (drop (i + 1) picks))) (slice_get (mail pick) (count_by (same_sender pick) (take i picks))))
+one_pick target mail picks i pick letters inside at =
+    ap (λ xs. option_map (λ rest. letters ++ rest) (picked_behind target (take i picks) mail xs)) (drop_more picks i pick inside ∙ ap (λ x. x ∷ drop (i + 1) picks) (sym at))
 
 -- a pick whose letter is there
-pub picked_there : (mail : Sender → List TypedValue) (picks : List Sender) (i : ℕ) (pick : Sender) (letters : List BatchInvocation) (argument : TypedValue) → i < length picks → pick ≡ get_or picks i pick → slice_get (mail pick) (count_by (same_sender pick) (take i picks)) ≡ Some argument → picked_on mail picks i letters ≡ picked_on mail picks (i + 1) (letters ++ invocation_of pick argument ∷ [])
-picked_there mail picks i pick letters argument inside at there =
-    one_pick mail picks i pick letters inside at
-    ∙ ap (λ o. option_map (λ rest. letters ++ rest) (option_and_then (λ argument. option_and_then (λ others. Some (invocation_of pick argument ∷ others)) (picked_behind (take i picks ++ pick ∷ []) mail (drop (i + 1) picks))) o)) there
-    ∙ joined letters (invocation_of pick argument) (picked_behind (take i picks ++ pick ∷ []) mail (drop (i + 1) picks))
-    ∙ ap (λ xs. option_map (λ rest. (letters ++ invocation_of pick argument ∷ []) ++ rest) (picked_behind xs mail (drop (i + 1) picks))) (sym (take_more picks i pick inside ∙ ap (λ x. take i picks ++ x ∷ []) (sym at)))
-
--- a pick whose letter is not there
-pub picked_not_there : (mail : Sender → List TypedValue) (picks : List Sender) (i : ℕ) (pick : Sender) (letters : List BatchInvocation) → i < length picks → pick ≡ get_or picks i pick → slice_get (mail pick) (count_by (same_sender pick) (take i picks)) ≡ None → picked_on mail picks i letters ≡ None
-picked_not_there mail picks i pick letters inside at none =
-    one_pick mail picks i pick letters inside at
-    ∙ ap (λ o. option_map (λ rest. letters ++ rest) (option_and_then (λ argument. option_and_then (λ others. Some (invocation_of pick argument ∷ others)) (picked_behind (take i picks ++ pick ∷ []) mail (drop (i + 1) picks))) o)) none
-
-pub picked_all : (mail : Sender → List TypedValue) (picks : List Sender) (i : ℕ) (letters : List BatchInvocation) → length picks ≤ i → picked_on mail picks i letters ≡ Some letters
-picked_all mail picks i letters all =
-    ap (λ xs. option_map (λ rest. letters ++ rest) (picked_behind (take i picks) mail xs)) (drop_all i picks all) ∙ ap Some (append-nil letters)
+pub picked_there : (target : Address) (mail : Sender → List TypedValue) (picks : List Sender) (i : ℕ) (pick : Sender) (letters : List BatchInvocation) (argument : TypedValue) → i < length picks → pick ≡ get_or picks i pick → slice_get (mail pick) (count_by (same_sender pick) (take i picks)) ≡ Some argument → picked_on target mail picks i letters ≡ picked_on target mail picks (i + 1) (letters ++ invocation_of (waiting_letter pick target argument) ∷ [])
+picked_there target mail picks i pick letters argument inside at there =
+    one_pick target mail picks i pick letters inside at
+    ∙ ap (λ o. option_map (λ rest. letters ++ rest) (option_and_then (λ argument. option_and_then (λ others. Some (invocation_of (waiting_letter pick target argument) ∷ others)) (picked_behind target (take i picks ++ pick ∷ []) mail (drop (i + 1) picks))) o)) there
+    ∙ joined letters (invocation_of (waiting_letter pick target argument)) (picked_behind target (take i picks ++ pick ∷ []) mail (drop (i + 1) picks))
+    ∙ ap (λ xs. option_map (λ rest. (letters ++ invocation_of (waiting_letter pick target argument) ∷ []) ++ rest) (picked_behind target xs mail (drop (i + 1) picks))) (sym (take_more picks i pick inside ∙ ap (λ x. take i picks ++ x ∷ []) (sym at)))
 
 -- ---- picked letters leave
 
@@ -120,18 +112,8 @@ counted-more picks i pick before after count inside at was counted sets sender =
     go (inr (f, apart)) = sets.others sender apart ∙ was sender ∙ sym (count-beside picks i pick sender inside at apart)
 
 -- a pick whose letter a look-up gave, with what a request says of it
-pub pick_found : (mail : Sender → List TypedValue) (picks : List Sender) (i : ℕ) (pick : Sender) (letters more : List BatchInvocation) (count : ℕ) (argument : TypedValue) (letter : BatchInvocation) → i < length picks → pick ≡ get_or picks i pick → count ≡ count_by (same_sender pick) (take i picks) → Some argument ≡ slice_get (mail pick) count → letter ≡ invocation_of pick argument → more ≡ letters ++ letter ∷ [] → picked mail picks ≡ picked_on mail picks i letters → picked mail picks ≡ picked_on mail picks (i + 1) more
-pick_found mail picks i pick letters more count argument letter inside at counted found is said so_far =
+pub pick_found : (target : Address) (mail : Sender → List TypedValue) (picks : List Sender) (i : ℕ) (pick : Sender) (letters more : List BatchInvocation) (count : ℕ) (argument : TypedValue) (letter : BatchInvocation) → i < length picks → pick ≡ get_or picks i pick → count ≡ count_by (same_sender pick) (take i picks) → Some argument ≡ slice_get (mail pick) count → letter ≡ invocation_of (waiting_letter pick target argument) → more ≡ letters ++ letter ∷ [] → picked target mail picks ≡ picked_on target mail picks i letters → picked target mail picks ≡ picked_on target mail picks (i + 1) more
+pick_found target mail picks i pick letters more count argument letter inside at counted found is said so_far =
     so_far
-    ∙ picked_there mail picks i pick letters argument inside at (ap (slice_get (mail pick)) (sym counted) ∙ sym found)
-    ∙ ap (picked_on mail picks (i + 1)) (sym (said ∙ ap (λ x. letters ++ x ∷ []) is))
-
-pub pick_missing : (mail : Sender → List TypedValue) (picks : List Sender) (i : ℕ) (pick : Sender) (letters : List BatchInvocation) (count : ℕ) → i < length picks → pick ≡ get_or picks i pick → count ≡ count_by (same_sender pick) (take i picks) → None ≡ slice_get (mail pick) count → picked mail picks ≡ picked_on mail picks i letters → None ≡ picked mail picks
-pick_missing mail picks i pick letters count inside at counted missing so_far =
-    sym (so_far ∙ picked_not_there mail picks i pick letters inside at (ap (slice_get (mail pick)) (sym counted) ∙ sym missing))
-
-pub picked_to_end : (mail : Sender → List TypedValue) (picks : List Sender) (i : ℕ) (letters : List BatchInvocation) → length picks ≤ i → picked mail picks ≡ picked_on mail picks i letters → Some letters ≡ picked mail picks
-picked_to_end mail picks i letters all so_far = sym (so_far ∙ picked_all mail picks i letters all)
-
-pub count_fits : (sender : Sender) (picks : List Sender) (i : ℕ) → count_by (same_sender sender) (take i picks) ≤ length picks
-count_fits sender picks i = omega (arith, count_by-le-length (same_sender sender) (take i picks), length-take i picks)
+    ∙ picked_there target mail picks i pick letters argument inside at (ap (slice_get (mail pick)) (sym counted) ∙ sym found)
+    ∙ ap (picked_on target mail picks (i + 1)) (sym (said ∙ ap (λ x. letters ++ x ∷ []) is))

@@ -9,7 +9,7 @@ use Rattle.run_record.specs.declared.module.Endpoint.{Endpoint}
 use Rattle.run_record.specs.Routing.{endpoint_of}
 use Rattle.run_record.specs.Machine.{State, picked, shipped, batch_of, is_within, request_of}
 
-pub request_made : (m : Module) (st : State) (address : Address) (moment : ℕ) (picks : List Sender) (endpoint : Endpoint) (letters : List BatchInvocation) (request : ToFunction) (b : Bool) → Some endpoint ≡ endpoint_of m address.kind → Some letters ≡ picked (λ sender. st.mail sender address) picks → request ≡ batch_of address (map (shipped moment) (st.cells address)) letters → b ≡ is_within endpoint picks request → cond b (Some request) None ≡ request_of m st address moment picks
+pub request_made : (m : Module) (st : State) (address : Address) (moment : ℕ) (picks : List Sender) (endpoint : Endpoint) (letters : List BatchInvocation) (request : ToFunction) (b : Bool) → Some endpoint ≡ endpoint_of m address.kind → Some letters ≡ picked address (λ sender. st.mail sender address) picks → request ≡ batch_of address (map (shipped moment) (st.cells address)) letters → b ≡ is_within endpoint picks request → cond b (Some request) None ≡ request_of m st address moment picks
 unfolding request_of
 request_made m st address moment picks endpoint letters request b e f g h =
     (λ i. cond (h i) (Some request) None)

@@ -10,8 +10,8 @@ use Rattle.request_reply.specs.Valid.{verdict}
 use Rattle.run_record.specs.declared.module.Module.{Module}
 use Rattle.run_record.specs.declared.entry.Reply.{Reply}
 use Rattle.run_record.specs.Machine.{State, picked, request_of, response_of, served, batch_step}
-use Rattle.run_record.specs.Laws.{batch_step-is}
-use Rattle.run_record.specs.LawsOfMail.{request_letters}
+use Rattle.run_record.proofs.LawsOfSteps.{batch_step-is}
+use Rattle.run_record.proofs.LawsOfMail.{request_letters}
 
 -- before the address' last moment
 pub not_late : (m : Module) (reply : Reply) (st : State) → reply.moment < st.seen reply.address → None ≡ batch_step m reply st
@@ -39,5 +39,5 @@ not_valid m reply st flaw e = nothing (nat_le (st.seen reply.address) reply.mome
 pub is_served : (m : Module) (reply : Reply) (st : State) (request : ToFunction) (response : InvocationResponse) → st.seen reply.address ≤ reply.moment → request_of m st reply.address reply.moment reply.picks ≡ Some request → verdict m.egresses reply.answer ≡ Accept response → Some (served reply response st) ≡ batch_step m reply st
 is_served m reply st request response in_time asked accepted = sym (batch_step-is {m = m} {reply = reply} {st = st} {next = served reply response st} (record { in_time = in_time; request = request; asked = asked; response = response; accepted = accepted; leaves = refl }))
 
-pub letters_there : (m : Module) (reply : Reply) (st : State) (request : ToFunction) → request_of m st reply.address reply.moment reply.picks ≡ Some request → IsSome (picked (λ sender. st.mail sender reply.address) reply.picks)
+pub letters_there : (m : Module) (reply : Reply) (st : State) (request : ToFunction) → request_of m st reply.address reply.moment reply.picks ≡ Some request → IsSome (picked reply.address (λ sender. st.mail sender reply.address) reply.picks)
 letters_there m reply st request asked = rw (request_letters m st reply.address reply.moment reply.picks request asked) refl

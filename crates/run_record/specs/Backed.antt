@@ -28,7 +28,8 @@ IsBackedStep exchanges m st (Batch reply) = IsBackedReply exchanges m st reply
 -- each step is backed, in the state before it
 abbrev pub AreBacked : List Exchange → Module → Lists → State → List Entry → Type 0
 AreBacked exchanges m lists st [] = Unit {0}
-AreBacked exchanges m lists st (entry ∷ entries) = IsBackedStep exchanges m st entry.step × IfSome (step_after m lists st entry.step) (λ next. AreBacked exchanges m lists next entries)
+AreBacked exchanges m lists st (entry ∷ entries) =
+    IsBackedStep exchanges m st entry.step × IfSome (step_after m lists st entry.step) (λ next. AreBacked exchanges m lists next entries)
 
 -- the calls of a record, in its order
 abbrev pub calls_of_step : Step → List Call

@@ -23,7 +23,8 @@ use Rattle.run_record.specs.Machine.{State, first_state, request_of, argument_of
 -- what each step of a record gives, in the state before it, joined in the record's order
 abbrev pub over_steps : {A : Type 0} → (State → Step → List A) → Module → Lists → State → List Entry → List A
 over_steps gives m lists st [] = []
-over_steps gives m lists st (entry ∷ entries) = gives st entry.step ++ option_map_or (λ next. over_steps gives m lists next entries) (step_after m lists st entry.step) []
+over_steps gives m lists st (entry ∷ entries) =
+    gives st entry.step ++ option_map_or (λ next. over_steps gives m lists next entries) (step_after m lists st entry.step) []
 
 -- ---- takes
 
@@ -45,7 +46,8 @@ counting from (suc n) = from ∷ counting (from + 1) n
 
 -- the arguments of the letters of one pair of sender and target, in order
 unfoldable pub arguments_of : Sender → Address → List Letter → List TypedValue
-arguments_of sender target letters = map (λ (letter : Letter). letter.argument) (filter (λ (letter : Letter). same_sender letter.sender sender && same_address letter.target target) letters)
+arguments_of sender target letters =
+    map (λ (letter : Letter). letter.argument) (filter (λ (letter : Letter). same_sender letter.sender sender && same_address letter.target target) letters)
 
 abbrev pub letters_judged : Address → Judged → List Letter
 letters_judged address (Accept response) = letters_from address response.outgoing_messages
@@ -65,12 +67,18 @@ invocations_of (Some (Invocation batch)) = batch.invocations
 abbrev pub arguments_picked : Sender → List Sender → List BatchInvocation → List TypedValue
 arguments_picked sender [] letters = []
 arguments_picked sender (pick ∷ picks) [] = []
-arguments_picked sender (pick ∷ picks) (letter ∷ letters) = if same_sender sender pick then argument_of letter.argument ∷ arguments_picked sender picks letters else arguments_picked sender picks letters
+arguments_picked sender (pick ∷ picks) (letter ∷ letters) =
+    if same_sender sender pick
+    then argument_of letter.argument ∷ arguments_picked sender picks letters
+    else arguments_picked sender picks letters
 
 -- the arguments of a pair that a step delivers: those that stand in its request
 abbrev pub delivered_by : Module → Sender → Address → State → Step → List TypedValue
 delivered_by m sender target st (Take split) = []
-delivered_by m sender target st (Batch reply) = if same_address reply.address target then arguments_picked sender reply.picks (invocations_of (request_of m st reply.address reply.moment reply.picks)) else []
+delivered_by m sender target st (Batch reply) =
+    if same_address reply.address target
+    then arguments_picked sender reply.picks (invocations_of (request_of m st reply.address reply.moment reply.picks))
+    else []
 
 -- what a record puts into the mail of a pair, in order
 unfoldable pub put_in : Module → Lists → State → List Entry → Sender → Address → List TypedValue
@@ -84,12 +92,19 @@ delivered m lists st entries sender target = over_steps (delivered_by m sender t
 
 -- a record of a split is taken at most once in every replay
 abbrev pub EachTakenOnce : Type 0
-EachTakenOnce = (m : Module) (lists : Lists) (last : State) (entries : List Entry) → replayed m lists first_state entries ≡ Some last → (split number : ℕ) → count_by (nat_eq number) (numbers_taken m lists first_state entries split) ≤ 1
+EachTakenOnce =
+    (m : Module) (lists : Lists) (last : State) (entries : List Entry) → replayed m lists first_state entries ≡ Some last
+    → (split number : ℕ) → count_by (nat_eq number) (numbers_taken m lists first_state entries split) ≤ 1
 
 -- the records taken of a split are its first, in order, as many as the state says
 abbrev pub TakenInOrder : Type 0
-TakenInOrder = (m : Module) (lists : Lists) (last : State) (entries : List Entry) → replayed m lists first_state entries ≡ Some last → (split : ℕ) → numbers_taken m lists first_state entries split ≡ counting 0 (last.taken split)
+TakenInOrder =
+    (m : Module) (lists : Lists) (last : State) (entries : List Entry) → replayed m lists first_state entries ≡ Some last
+    → (split : ℕ) → numbers_taken m lists first_state entries split ≡ counting 0 (last.taken split)
 
 -- what is put into the mail of a pair is, in order, what is delivered of it and then what waits there
 abbrev pub DeliveredInOrder : Type 0
-DeliveredInOrder = (m : Module) (lists : Lists) (last : State) (entries : List Entry) → replayed m lists first_state entries ≡ Some last → (sender : Sender) (target : Address) → put_in m lists first_state entries sender target ≡ delivered m lists first_state entries sender target ++ last.mail sender target
+DeliveredInOrder =
+    (m : Module) (lists : Lists) (last : State) (entries : List Entry) → replayed m lists first_state entries ≡ Some last
+    → (sender : Sender) (target : Address)
+    → put_in m lists first_state entries sender target ≡ delivered m lists first_state entries sender target ++ last.mail sender target

@@ -1,10 +1,12 @@
 -- What a record gave to the egresses, and the text of it.
-use Rattle.std.specs.Prelude.{◌≡◌, ℕ, ◌+◌, ◌/◌, ◌%◌, nat_lt, List, [], ◌∷◌, ◌++◌, ◌||◌, ◌==◌, map, codes, if◌then◌else◌}
+use Rattle.std.specs.Prelude.{ℕ, List, [], ◌∷◌, ◌++◌, Bool, ◌&&◌, map, filter}
 use Rattle.std.specs.List.{flat_map}
 use Rattle.typed_values.specs.declared.name.TypeName.{TypeName}
 use Rattle.typed_values.specs.declared.address.Address.{Address}
 use Rattle.typed_values.specs.declared.value.TypedValue.{TypedValue}
 use Rattle.typed_values.specs.declared.record.EgressRecord.{EgressRecord}
+use Rattle.typed_values.specs.Sameness.{same_name, same_address}
+use Rattle.typed_values.specs.Escape.{escaped, name_text, address_text, value_text}
 use Rattle.request_reply.specs.declared.answer.EgressMessage.{EgressMessage}
 use Rattle.request_reply.specs.declared.judging.Judged.{Judged}
 use Rattle.request_reply.specs.declared.judging.Judged.TheVariants.{Accept, Flaw}
@@ -31,43 +33,15 @@ records_of_step m (Batch reply) = records_judged reply.address (verdict m.egress
 unfoldable pub egress_of : Module → List Entry → List EgressRecord
 egress_of m entries = flat_map (λ entry. records_of_step m entry.step) entries
 
+-- whether an egress record is one of this address to this egress
+abbrev pub is_between : Address → TypeName → EgressRecord → Bool
+is_between address egress r = same_address r.sender address && same_name r.egress egress
+
+-- the arguments of an address' records to an egress, in order
+unfoldable pub arguments_at : Address → TypeName → List EgressRecord → List TypedValue
+arguments_at address egress records = map (λ (r : EgressRecord). r.argument) (filter (is_between address egress) records)
+
 -- ---- the text
-
--- these bytes, with some behind them
-abbrev pub StartsAs : List ℕ → List ℕ → Type 0
-StartsAs front bytes = (rest : List ℕ) × (bytes ≡ front ++ rest)
-
--- a digit of a number below 16, in upper case and in lower case
-abbrev pub upper_digit : ℕ → ℕ
-upper_digit n = if nat_lt n 10 then 48 + n else 55 + n
-
-abbrev pub lower_digit : ℕ → ℕ
-lower_digit n = if nat_lt n 10 then 48 + n else 87 + n
-
--- a byte that is no visible ASCII character, and the percent sign, as `%` and two digits
-abbrev pub escaped_byte : ℕ → List ℕ
-escaped_byte byte = if nat_lt byte 33 || nat_lt 126 byte || byte == 37 then 37 ∷ upper_digit (byte / 16) ∷ upper_digit (byte % 16) ∷ [] else byte ∷ []
-
-abbrev pub escaped : List ℕ → List ℕ
-escaped bytes = flat_map escaped_byte bytes
-
-abbrev pub hex_byte : ℕ → List ℕ
-hex_byte byte = lower_digit (byte / 16) ∷ lower_digit (byte % 16) ∷ []
-
-abbrev pub hex : List ℕ → List ℕ
-hex bytes = flat_map hex_byte bytes
-
--- `namespace/name`
-abbrev pub name_text : TypeName → List ℕ
-name_text n = escaped n.namespace ++ 47 ∷ escaped n.name
-
--- `namespace/name/id`
-abbrev pub address_text : Address → List ℕ
-address_text a = name_text a.kind ++ 47 ∷ escaped a.id
-
--- the value's bytes, or `none`
-abbrev pub value_text : TypedValue → List ℕ
-value_text v = if v.has_value then hex v.value else codes "none"
 
 -- `SENDER EGRESS TYPENAME HEX`
 abbrev pub egress_line : EgressRecord → List ℕ

@@ -1,18 +1,20 @@
 -- The sequential machine: its state, its steps, and what a record of steps means.
-use Rattle.std.specs.Prelude.{ℕ, ◌+◌, nat_eq, nat_lt, nat_le, List, [], ◌∷◌, ◌++◌, length, Bool, false, ◌&&◌, ◌||◌, if◌then◌else◌, Option, Some, None, map, filter, drop, count_by, slice_get, option_and_then}
+use Rattle.std.specs.Prelude.{ℕ, ◌+◌, ◌^◌, ◌<◌, nat_eq, nat_lt, nat_le, List, [], ◌∷◌, ◌++◌, length, Bool, false, ◌&&◌, ◌||◌, if◌then◌else◌, Option}
+use Rattle.std.specs.Prelude.{Some, None, map, filter, drop, count_by, slice_get, option_and_then}
 use Rattle.std.specs.Option.{option_map}
 use Rattle.std.specs.List.{flat_map}
 use Rattle.typed_values.specs.declared.name.TypeName.{TypeName}
 use Rattle.typed_values.specs.declared.address.Address.{Address}
 use Rattle.typed_values.specs.declared.value.TypedValue.{TypedValue}
 use Rattle.typed_values.specs.declared.letter.Sender.{Sender}
-use Rattle.typed_values.specs.declared.letter.Sender.TheVariants.{Split, Function}
+use Rattle.typed_values.specs.declared.letter.Sender.TheVariants.{Function}
 use Rattle.typed_values.specs.declared.letter.Letter.{Letter}
 use Rattle.typed_values.specs.declared.cell.CellSpec.{CellSpec}
 use Rattle.typed_values.specs.declared.cell.Expiry.{Expiry}
 use Rattle.typed_values.specs.declared.cell.Expiry.TheVariants.{Never, AfterWrite, AfterInvoke}
 use Rattle.typed_values.specs.declared.record.Delay.{Delay}
 use Rattle.typed_values.specs.Sameness.{same_name, same_address, same_sender}
+use Rattle.sf_outside.specs.declared.ingress.IngressRecord.{IngressRecord}
 use Rattle.sf_outside.specs.Splits.{Lists, record_at}
 use Rattle.request_reply.specs.declared.request.ToFunction.{ToFunction}
 use Rattle.request_reply.specs.declared.request.ToFunction.TheVariants.{Invocation}
@@ -23,6 +25,7 @@ use Rattle.request_reply.specs.declared.answer.OutgoingInvocation.{OutgoingInvoc
 use Rattle.request_reply.specs.declared.answer.EgressMessage.{EgressMessage}
 use Rattle.request_reply.specs.declared.judging.Judged.{Judged}
 use Rattle.request_reply.specs.declared.judging.Judged.TheVariants.{Accept, Flaw}
+use Rattle.request_reply.specs.Letters.{invocation_of}
 use Rattle.request_reply.specs.Spelling.{to_spelling}
 use Rattle.request_reply.specs.Valid.{verdict}
 use Rattle.run_record.specs.declared.module.Module.{Module}
@@ -73,7 +76,10 @@ Mail = Sender → Address → List TypedValue
 
 -- a letter goes last in the mail of its pair
 abbrev pub posted : Mail → Letter → Mail
-posted mail letter = λ sender target. if same_sender letter.sender sender && same_address letter.target target then mail sender target ++ letter.argument ∷ [] else mail sender target
+posted mail letter = λ sender target.
+    if same_sender letter.sender sender && same_address letter.target target
+    then mail sender target ++ letter.argument ∷ []
+    else mail sender target
 
 abbrev pub posted_all : Mail → List Letter → Mail
 posted_all mail [] = mail
@@ -84,9 +90,19 @@ posted_all mail (letter ∷ letters) = posted_all (posted mail letter) letters
 abbrev pub taken_after : ℕ → (ℕ → ℕ) → ℕ → ℕ
 taken_after split taken = λ other. if nat_eq split other then taken other + 1 else taken other
 
--- the split's next record becomes one letter for each target; there must be such a record
+-- a record of a split is taken: it becomes one letter for each target
+unfoldable pub took : Module → ℕ → IngressRecord → State → State
+took m split found st = record st {
+  taken = taken_after split st.taken;
+  mail = posted_all st.mail (letters_of m split found);
+}
+
+-- the split's next record is taken, where the split is one of the job's and has one
 unfoldable pub take_step : Module → Lists → ℕ → State → Option State
-take_step m lists split st = if nat_lt split (splits_in m.ingresses) then option_map (λ next. record st { taken = taken_after split st.taken; mail = posted_all st.mail (letters_of m split next) }) (record_at lists split (st.taken split)) else None
+take_step m lists split st =
+    if nat_lt split (splits_in m.ingresses)
+    then option_map (λ next. took m split next st) (record_at lists split (st.taken split))
+    else None
 
 -- ---- the request of picked letters
 
@@ -94,29 +110,28 @@ infixl 10 ◌>>=◌
 abbrev ◌>>=◌ : {A B : Type 0} → Option A → (A → Option B) → Option B
 o >>= f = option_and_then f o
 
--- a caller stands only for a function's letter
-abbrev pub caller_of : Sender → Option Address
-caller_of (Split split) = None
-caller_of (Function caller) = Some caller
+-- an argument that waits in a pair's mail, as the letter that brought it
+abbrev pub waiting_letter : Sender → Address → TypedValue → Letter
+waiting_letter sender target argument = record { sender = sender; target = target; argument = argument }
 
-abbrev pub invocation_of : Sender → TypedValue → BatchInvocation
-invocation_of sender argument = record { caller = caller_of sender; argument = Some argument }
-
--- The letters that picks stand for, of the senders' mail to one address: the k-th pick of a sender stands for
+-- The letters that picks stand for, of the senders' mail to one target: the k-th pick of a sender stands for
 -- letter k of its mail, which must be there. The first list is the picks before these.
-abbrev pub picked_behind : List Sender → (Sender → List TypedValue) → List Sender → Option (List BatchInvocation)
-picked_behind before mail [] = Some []
-picked_behind before mail (sender ∷ picks) = do
+abbrev pub picked_behind : Address → List Sender → (Sender → List TypedValue) → List Sender → Option (List BatchInvocation)
+picked_behind target before mail [] = Some []
+picked_behind target before mail (sender ∷ picks) = do
   argument ← slice_get (mail sender) (count_by (same_sender sender) before)
-  others ← picked_behind (before ++ sender ∷ []) mail picks
-  Some (invocation_of sender argument ∷ others)
+  others ← picked_behind target (before ++ sender ∷ []) mail picks
+  Some (invocation_of (waiting_letter sender target argument) ∷ others)
 
-unfoldable pub picked : (Sender → List TypedValue) → List Sender → Option (List BatchInvocation)
-picked mail picks = picked_behind [] mail picks
+unfoldable pub picked : Address → (Sender → List TypedValue) → List Sender → Option (List BatchInvocation)
+picked target mail picks = picked_behind target [] mail picks
 
 -- the picked letters leave the mail: from the front of each pair to the address, as many as its sender was picked
 abbrev pub unpicked : Address → List Sender → Mail → Mail
-unpicked address picks mail = λ sender target. if same_address address target then drop (count_by (same_sender sender) picks) (mail sender target) else mail sender target
+unpicked address picks mail = λ sender target.
+    if same_address address target
+    then drop (count_by (same_sender sender) picks) (mail sender target)
+    else mail sender target
 
 -- a value of a cell that expires is gone so long after its stamp
 abbrev pub lapsed : Expiry → ℕ → ℕ → ℕ → Bool
@@ -136,14 +151,15 @@ batch_of address cells letters = Invocation (record { target = Some address; sta
 
 -- a batch keeps its endpoint's limits
 abbrev pub is_within : Endpoint → List Sender → ToFunction → Bool
-is_within endpoint picks request = nat_lt 0 (length picks) && nat_le (length picks) endpoint.max_letters && nat_le (length (to_spelling request)) endpoint.max_bytes
+is_within endpoint picks request =
+    nat_lt 0 (length picks) && nat_le (length picks) endpoint.max_letters && nat_le (length (to_spelling request)) endpoint.max_bytes
 
 -- The request to an address at a moment for some picks: all its cells as they are then, and the picked letters.
 -- There is none where a picked letter is not there, the type has no endpoint, or a limit is passed.
 unfoldable pub request_of : Module → State → Address → ℕ → List Sender → Option ToFunction
 request_of m st address moment picks = do
   endpoint ← endpoint_of m address.kind
-  letters ← picked (λ sender. st.mail sender address) picks
+  letters ← picked address (λ sender. st.mail sender address) picks
   let request = batch_of address (map (shipped moment) (st.cells address)) letters
   if is_within endpoint picks request then Some request else None
 
@@ -168,7 +184,10 @@ egress_name message = record { namespace = message.egress_namespace; name = mess
 
 -- the records go last in the egress of the address
 abbrev pub emitted : Address → List EgressMessage → (Address → TypeName → List TypedValue) → Address → TypeName → List TypedValue
-emitted address messages egress = λ other name. if same_address address other then egress other name ++ map (λ message. argument_of message.argument) (filter (λ message. same_name (egress_name message) name) messages) else egress other name
+emitted address messages egress = λ other name.
+    if same_address address other
+    then egress other name ++ map (λ message. argument_of message.argument) (filter (λ message. same_name (egress_name message) name) messages)
+    else egress other name
 
 abbrev pub seen_after : Address → ℕ → (Address → ℕ) → Address → ℕ
 seen_after address moment seen = λ other. if same_address address other then moment else seen other
@@ -198,6 +217,22 @@ batch_step m reply st = if nat_le (st.seen reply.address) reply.moment then (do
 abbrev pub step_after : Module → Lists → State → Step → Option State
 step_after m lists st (Take split) = take_step m lists split st
 step_after m lists st (Batch reply) = batch_step m reply st
+
+-- the record that a step takes, if it takes one
+abbrev pub next_record : Lists → State → Step → Option IngressRecord
+next_record lists st (Take split) = record_at lists split (st.taken split)
+next_record lists st (Batch reply) = None
+
+-- the state after a step, where the split's next record is this one
+unfoldable pub step_with : Module → Option IngressRecord → State → Step → Option State
+step_with m found st (Take split) = if nat_lt split (splits_in m.ingresses) then option_map (λ next. took m split next st) found else None
+step_with m found st (Batch reply) = batch_step m reply st
+
+-- a list is shorter than 2^63
+abbrev pub HasRoom : Step → Option IngressRecord → State → Type 0
+HasRoom (Take split) (Some found) st = st.taken split < 2 ^ 63
+HasRoom (Take split) None st = Unit {0}
+HasRoom (Batch reply) found st = Unit {0}
 
 -- the state after the steps of a record, one after the other, where each is allowed
 abbrev pub replayed : Module → Lists → State → List Entry → Option State

@@ -42,11 +42,13 @@ is_placed outer_compare inner_compare outer inner item = is_eq (outer_compare it
 
 -- the values that are placed at a pair of keys, in order
 abbrev pub values_at : {A B X : Type 0} → (A → A → Ordering) → (B → B → Ordering) → List (Placed A B X) → A → B → List X
-values_at {A} {B} {X} outer_compare inner_compare items outer inner = map (λ (item : Placed A B X). item.value) (filter (is_placed outer_compare inner_compare outer inner) items)
+values_at {A} {B} {X} outer_compare inner_compare items outer inner =
+    map (λ (item : Placed A B X). item.value) (filter (is_placed outer_compare inner_compare outer inner) items)
 
 -- each pair of keys has, behind what it had before, the values that are placed there
 abbrev pub HasBehind : {A B X : Type 0} → (A → A → Ordering) → (B → B → Ordering) → (A → B → List X) → List (Placed A B X) → (A → B → List X) → Type 0
-HasBehind {A} {B} outer_compare inner_compare before items after = (outer : A) (inner : B) → after outer inner ≡ before outer inner ++ values_at outer_compare inner_compare items outer inner
+HasBehind {A} {B} outer_compare inner_compare before items after =
+    (outer : A) (inner : B) → after outer inner ≡ before outer inner ++ values_at outer_compare inner_compare items outer inner
 
 -- the number of a key; one that is not there has 0
 abbrev pub number_at : {K : Type 0} → (K → K → Ordering) → BTreeMap K ℕ → K → ℕ

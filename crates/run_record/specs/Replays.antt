@@ -13,8 +13,7 @@ use Rattle.run_record.specs.declared.replaying.Replayed.{Replayed}
 use Rattle.run_record.specs.declared.replaying.Replayed.TheVariants.{State as Reached, NotAllowed}
 use Rattle.run_record.specs.declared.replaying.ReplayFault.{ReplayFault}
 use Rattle.run_record.specs.declared.replaying.ReplayFault.TheVariants.{IngressFault, OutOfMemory}
-use Rattle.run_record.specs.Machine.{State, first_state, step_after, replayed}
-use Rattle.run_record.specs.Laws.{step_with}
+use Rattle.run_record.specs.Machine.{State, first_state, step_after, replayed, step_with}
 use Rattle.run_record.specs.StateOf.{state_of}
 
 -- lists that may be those of an ingress: its own, where it tells them

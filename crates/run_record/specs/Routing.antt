@@ -1,15 +1,16 @@
 -- Where things go in a job.
-use Rattle.std.specs.Prelude.{ℕ, ◌+◌, ◌-◌, nat_eq, nat_lt, nat_le, codes, zero, suc, List, [], ◌∷◌, ◌++◌, Bool, true, false, not, ◌&&◌, if◌then◌else◌, Option, Some, None, is_some, map, find}
+use Rattle.std.specs.Prelude.{ℕ, ◌+◌, ◌-◌, nat_eq, nat_lt, nat_le, codes, zero, suc, List, [], ◌∷◌, ◌++◌, Bool, true, false, not, ◌&&◌, if◌then◌else◌}
+use Rattle.std.specs.Prelude.{Option, Some, None, is_some, map, find}
 use Rattle.std.specs.Option.{option_map, option_map_or}
 use Rattle.std.specs.List.{starts_with, list_any, list_all}
 use Rattle.typed_values.specs.declared.name.TypeName.{TypeName}
 use Rattle.typed_values.specs.declared.letter.Sender.TheVariants.{Split}
 use Rattle.typed_values.specs.declared.letter.Letter.{Letter}
 use Rattle.typed_values.specs.Sameness.{same_bytes, same_name}
+use Rattle.typed_values.specs.Pattern.{same_pattern}
 use Rattle.sf_outside.specs.declared.ingress.IngressRecord.{IngressRecord}
 use Rattle.run_record.specs.declared.module.Module.{Module}
 use Rattle.run_record.specs.declared.module.Endpoint.{Endpoint}
-use Rattle.run_record.specs.declared.module.TypePattern.{TypePattern}
 use Rattle.run_record.specs.declared.module.IngressSpec.{IngressSpec}
 
 -- the number of splits of some ingresses
@@ -51,15 +52,6 @@ abbrev pub all_apart : {A : Type 0} → (A → A → Bool) → List A → Bool
 all_apart same [] = true
 all_apart same (x ∷ xs) = not (list_any (same x) xs) && all_apart same xs
 
-abbrev pub same_pattern_name : Option (List ℕ) → Option (List ℕ) → Bool
-same_pattern_name None None = true
-same_pattern_name (Some a) (Some b) = same_bytes a b
-same_pattern_name None (Some b) = false
-same_pattern_name (Some a) None = false
-
-abbrev pub same_pattern : TypePattern → TypePattern → Bool
-same_pattern a b = same_bytes a.namespace b.namespace && same_pattern_name a.name b.name
-
 -- at least one letter a batch, one attempt, and one poll for each attempt
 abbrev pub is_usable : Endpoint → Bool
 is_usable endpoint = nat_lt 0 endpoint.max_letters && nat_lt 0 endpoint.attempts && nat_lt 0 endpoint.patience
@@ -85,7 +77,10 @@ is_routable m =
 abbrev pub filled_from : List ℕ → ℕ → List ℕ → List ℕ
 filled_from name skip [] = []
 filled_from name (suc skip) (byte ∷ bytes) = filled_from name skip bytes
-filled_from name zero (byte ∷ bytes) = if starts_with nat_eq (byte ∷ bytes) (codes "{function.name}") then name ++ filled_from name 14 bytes else byte ∷ filled_from name zero bytes
+filled_from name zero (byte ∷ bytes) =
+    if starts_with nat_eq (byte ∷ bytes) (codes "{function.name}")
+    then name ++ filled_from name 14 bytes
+    else byte ∷ filled_from name zero bytes
 
 unfoldable pub filled : List ℕ → List ℕ → List ℕ
 filled name template = filled_from name 0 template

@@ -3,8 +3,7 @@ ghost use Rattle.std.specs.Prelude.{◌≡◌, IfOk, OnOk, OnErr, is_some, unwra
 ghost use Rattle.std.specs.Option.{option_copied};
 ghost use Rattle.run_record.specs.declared.entry.Step.TheVariants.{Take, Batch};
 ghost use Rattle.run_record.specs.Routing.{splits_in};
-ghost use Rattle.run_record.specs.Machine.{batch_step};
-ghost use Rattle.run_record.specs.Laws.{step_with, HasRoom};
+ghost use Rattle.run_record.specs.Machine.{batch_step, step_with, HasRoom};
 ghost use Rattle.run_record.specs.StateOf.{state_of};
 
 use crate::effects::{serve, take_record};
@@ -31,7 +30,7 @@ fn has_split(ingresses: &[IngressSpec], split: u32) -> bool
 }
 
 /// Takes the next record of a split, where the split is one of the module's and there is such a record.
-#[tactic(auto, unfolding(crate::specs::Laws::step_with))]
+#[tactic(auto, unfolding(crate::specs::Machine::step_with))]
 fn apply_take(
     alloc: Global,
     machine: &mut Machine,
@@ -81,7 +80,7 @@ impl Machine {
     /// Makes the step of an entry, where it is allowed: true exactly then, and the state is the step's. For a Take `taken`
     /// is the record that the split's list has next, if it has one; for a Batch it is not looked at. With false, and with
     /// an `Err`, the state stays.
-    #[tactic(auto, unfolding(crate::specs::Laws::step_with))]
+    #[tactic(auto, unfolding(crate::specs::Machine::step_with))]
     pub fn apply(
         &mut self,
         alloc: Global,

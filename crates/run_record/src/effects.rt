@@ -1,8 +1,7 @@
 //! What steps do to the machine's state.
 ghost use Rattle.std.specs.Prelude.{◌≡◌, ◌^◌, ◌<◌, ℕ, IsSome, OnOk, OnErr, get_or, vec_len};
 ghost use Rattle.run_record.specs.Routing.{splits_in};
-ghost use Rattle.run_record.specs.Machine.{picked, served, taken_after};
-ghost use Rattle.run_record.specs.Laws.{took};
+ghost use Rattle.run_record.specs.Machine.{picked, served, taken_after, took};
 ghost use Rattle.run_record.specs.StateOf.{state_of};
 
 use crate::machine::Machine;
@@ -63,7 +62,7 @@ pub fn serve(
     reply: &Reply,
     response: InvocationResponse,
 ) -> Mem<()>
-    requires { IsSome (picked (λ sender. (state_of machine.old).mail sender reply.now.address) reply.now.picks) }
+    requires { IsSome (picked reply.now.address (λ sender. (state_of machine.old).mail sender reply.now.address) reply.now.picks) }
     ensures ok { OnOk result (state_of machine.new ≡ served reply.now response (state_of machine.old)) }
     ensures err { OnErr result (state_of machine.new ≡ state_of machine.old) }
 {

@@ -1,11 +1,15 @@
 //! The text of egress records.
-ghost use Rattle.std.specs.Prelude.{◌≡◌, ◌<◌, ◌∷◌, [], ◌++◌, map, OnOk, OnErr};
-ghost use Rattle.run_record.specs.Egress.{StartsAs, upper_digit, lower_digit, escaped_byte, escaped, hex_byte, hex, name_text, address_text, value_text, egress_line, egress_text, egress_record};
-ghost use Rattle.run_record.specs.Machine.{argument_of, egress_name};
+ghost use Rattle.std.specs.Prelude.{◌≡◌, ◌∷◌, ◌++◌, map, OnOk, OnErr};
+ghost use Rattle.typed_values.specs.Escape.{StartsAs, escaped, value_text};
+ghost use Rattle.run_record.specs.Egress.{egress_line, egress_text, egress_record};
+ghost use Rattle.run_record.specs.Machine.{argument_of};
 
 use proto_wire::{Bytes, Mem};
 use request_reply::EgressMessage;
-use typed_values::{Address, EgressRecord, TypeName, TypedValue};
+use typed_values::{
+    Address, EgressRecord, TypedValue, put_address_text, put_escaped, put_name_parts,
+    put_name_text, put_value_text,
+};
 
 /// Adds the line of an egress record: its sender, egress, typename and value, as words with one blank between them,
 /// and a line feed. An `Err` leaves what stood there with a part of the line behind it.
@@ -13,13 +17,13 @@ pub fn put_egress_line(into: &mut Bytes, record: &EgressRecord) -> Mem<()>
     ensures ok { OnOk result (into.new ≡ into.old ++ egress_line «record».now) }
     ensures err { OnErr result (StartsAs into.old into.new) }
 {
-    put_address(into, &record.sender)?;
+    put_address_text(into, &record.sender)?;
     into.push(b' ')?;
-    put_name(into, &record.egress)?;
+    put_name_text(into, &record.egress)?;
     into.push(b' ')?;
     put_escaped(into, record.argument.typename.as_bytes())?;
     into.push(b' ')?;
-    put_value(into, &record.argument)?;
+    put_value_text(into, &record.argument)?;
     into.push(b'\n')?;
     Ok(())
 }
@@ -54,23 +58,12 @@ fn put_message_line(into: &mut Bytes, sender: &Address, message: &EgressMessage)
     ensures ok { OnOk result (into.new ≡ into.old ++ egress_line (egress_record sender.now message.now)) }
     ensures err { OnErr result (StartsAs into.old into.new) }
 {
-    put_address(into, sender)?;
+    put_address_text(into, sender)?;
     into.push(b' ')?;
-    put_message_name(into, message)?;
+    put_name_parts(into, &message.egress_namespace, &message.egress_type)?;
     into.push(b' ')?;
     put_argument(into, &message.argument)?;
     into.push(b'\n')?;
-    Ok(())
-}
-
-/// Adds the name of the egress of a message.
-fn put_message_name(into: &mut Bytes, message: &EgressMessage) -> Mem<()>
-    ensures ok { OnOk result (into.new ≡ into.old ++ name_text (egress_name message.now)) }
-    ensures err { OnErr result (StartsAs into.old into.new) }
-{
-    put_escaped(into, message.egress_namespace.as_bytes())?;
-    into.push(b'/')?;
-    put_escaped(into, message.egress_type.as_bytes())?;
     Ok(())
 }
 
@@ -86,99 +79,8 @@ fn put_argument(into: &mut Bytes, argument: &Option<TypedValue>) -> Mem<()>
         Some(argument) => {
             put_escaped(into, argument.typename.as_bytes())?;
             into.push(b' ')?;
-            put_value(into, argument)?;
+            put_value_text(into, argument)?;
         }
     }
     Ok(())
-}
-
-/// Adds an address, `namespace/name/id`, each part escaped. An `Err` leaves what stood there with a part behind it.
-pub fn put_address(into: &mut Bytes, address: &Address) -> Mem<()>
-    ensures ok { OnOk result (into.new ≡ into.old ++ address_text address.now) }
-    ensures err { OnErr result (StartsAs into.old into.new) }
-{
-    put_name(into, &address.kind)?;
-    into.push(b'/')?;
-    put_escaped(into, address.id.as_bytes())?;
-    Ok(())
-}
-
-/// Adds a name, `namespace/name`, each part escaped. An `Err` leaves what stood there with a part behind it.
-pub fn put_name(into: &mut Bytes, name: &TypeName) -> Mem<()>
-    ensures ok { OnOk result (into.new ≡ into.old ++ name_text name.now) }
-    ensures err { OnErr result (StartsAs into.old into.new) }
-{
-    put_escaped(into, name.namespace.as_bytes())?;
-    into.push(b'/')?;
-    put_escaped(into, name.name.as_bytes())?;
-    Ok(())
-}
-
-/// Adds a value's bytes in hexadecimal, or `none` where it is none. An `Err` leaves what stood there with a part behind it.
-fn put_value(into: &mut Bytes, value: &TypedValue) -> Mem<()>
-    ensures ok { OnOk result (into.new ≡ into.old ++ value_text value.now) }
-    ensures err { OnErr result (StartsAs into.old into.new) }
-{
-    if value.has_value {
-        put_hex(into, value.value.as_slice())?;
-    } else {
-        into.append(b"none")?;
-    }
-    Ok(())
-}
-
-/// Adds bytes, each that is no visible ASCII character, and `%`, as `%` and two upper-case hexadecimal digits. An `Err`
-/// leaves what stood there with a part behind it.
-pub fn put_escaped(into: &mut Bytes, bytes: &[u8]) -> Mem<()>
-    ensures ok { OnOk result (into.new ≡ into.old ++ escaped bytes.now) }
-    ensures err { OnErr result (StartsAs into.old into.new) }
-{
-    for byte in bytes {
-        put_escaped_byte(into, *byte)?;
-    }
-    Ok(())
-}
-
-fn put_escaped_byte(into: &mut Bytes, byte: u8) -> Mem<()>
-    ensures ok { OnOk result (into.new ≡ into.old ++ escaped_byte byte) }
-    ensures err { OnErr result (into.new ≡ into.old) }
-{
-    if byte < 33 || byte > 126 || byte == b'%' {
-        into.append(&[b'%', upper_digit(byte / 16), upper_digit(byte % 16)])
-    } else {
-        into.push(byte)
-    }
-}
-
-/// Adds bytes, each as two lower-case hexadecimal digits. An `Err` leaves what stood there with a part behind it.
-pub fn put_hex(into: &mut Bytes, bytes: &[u8]) -> Mem<()>
-    ensures ok { OnOk result (into.new ≡ into.old ++ hex bytes.now) }
-    ensures err { OnErr result (StartsAs into.old into.new) }
-{
-    for byte in bytes {
-        into.append(&[lower_digit(*byte / 16), lower_digit(*byte % 16)])?;
-    }
-    Ok(())
-}
-
-fn upper_digit(digit: u8) -> u8
-    requires { digit < 16 }
-    ensures { result ≡ upper_digit digit }
-{
-    if digit < 10 {
-        b'0' + digit
-    } else {
-        b'A' - 10 + digit
-    }
-}
-
-fn lower_digit(digit: u8) -> u8
-    requires { digit < 16 }
-    ensures { result ≡ lower_digit digit }
-{
-    if digit < 10 {
-        b'0' + digit
-    } else {
-        b'a' - 10 + digit
-    }
 }

@@ -1,12 +1,13 @@
 //! Entries of the run record.
-use proto_wire::{Bytes, List};
+use proto_wire::{Bytes, List, Mem, TryClone};
 use sf_outside::Call;
+use std::alloc::Global;
 use typed_values::{Address, Sender};
 
 /// One step of the machine, and its key: `leg`, then `stamp`, then `node`.
 ///
 /// Node `s` is split `s`, and node `S + p` is partition `p` where there are `S` splits.
-#[derive(PartialEq, Eq, Drop)]
+#[derive(Drop)]
 pub struct Entry {
     pub leg: u64,
     pub stamp: u64,
@@ -14,8 +15,19 @@ pub struct Entry {
     pub step: Step,
 }
 
+impl TryClone for Entry {
+    fn try_clone(&self, alloc: Global) -> Mem<Entry> {
+        Ok(Entry {
+            leg: self.leg,
+            stamp: self.stamp,
+            node: self.node,
+            step: self.step.try_clone(alloc)?,
+        })
+    }
+}
+
 /// What a step did.
-#[derive(PartialEq, Eq, Drop)]
+#[derive(Drop)]
 pub enum Step {
     /// The next record of a split became one letter for each target.
     Take(u32),
@@ -23,8 +35,17 @@ pub enum Step {
     Batch(Reply),
 }
 
+impl TryClone for Step {
+    fn try_clone(&self, alloc: Global) -> Mem<Step> {
+        match self {
+            Step::Take(split) => Ok(Step::Take(*split)),
+            Step::Batch(reply) => Ok(Step::Batch(reply.try_clone(alloc)?)),
+        }
+    }
+}
+
 /// An answer, and the request that it answers.
-#[derive(PartialEq, Eq, Drop)]
+#[derive(Drop)]
 pub struct Reply {
     /// The call that brought the answer.
     pub call: Call,
@@ -36,4 +57,16 @@ pub struct Reply {
     pub picks: List<Sender>,
     /// The answer's bytes, as the link gave them.
     pub answer: Bytes,
+}
+
+impl TryClone for Reply {
+    fn try_clone(&self, alloc: Global) -> Mem<Reply> {
+        Ok(Reply {
+            call: self.call,
+            address: self.address.try_clone(alloc)?,
+            moment: self.moment,
+            picks: self.picks.try_clone(alloc)?,
+            answer: self.answer.try_clone(alloc)?,
+        })
+    }
 }

@@ -1,5 +1,5 @@
 //! The keys of the machine's queues.
-ghost use Rattle.run_record.specs.Keys.{exact_names, exact_addresses, exact_senders};
+ghost use Rattle.typed_values.proofs.Orders.{exact_names, exact_addresses, exact_senders};
 
 use crate::shelf::Key;
 use typed_values::{Address, Sender, TypeName};

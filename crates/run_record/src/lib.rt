@@ -20,15 +20,14 @@ mod routes;
 mod shelf;
 mod shelves;
 
-pub use egress::{
-    put_address, put_answer_text, put_egress_line, put_egress_text, put_escaped, put_hex, put_name,
-};
+pub use egress::{put_answer_text, put_egress_line, put_egress_text};
 pub use entry::{Entry, Reply, Step};
 pub use laws::{
     each_record_is_taken_once, letters_are_delivered_in_order, records_are_taken_in_order,
 };
 pub use machine::Machine;
 pub use merging::merge;
-pub use module::{Endpoint, IngressSpec, Module, TypePattern};
+pub use module::{Endpoint, IngressSpec, Module};
+pub use picking::caller_of;
 pub use replaying::{ReplayFault, Replayed, replay};
 pub use routes::Routes;

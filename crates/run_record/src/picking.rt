@@ -2,7 +2,8 @@
 ghost use Rattle.std.specs.Prelude.{◌≡◌, IfOk};
 ghost use Rattle.typed_values.specs.declared.letter.Sender.{Sender};
 ghost use Rattle.typed_values.specs.declared.address.Address.{Address};
-ghost use Rattle.run_record.specs.Machine.{caller_of, picked, unpicked};
+ghost use Rattle.request_reply.specs.Letters.{caller_of};
+ghost use Rattle.run_record.specs.Machine.{picked, unpicked};
 ghost use Rattle.run_record.specs.StateOf.{mail_of};
 
 use crate::numbers::Numbers;
@@ -12,7 +13,7 @@ use request_reply::BatchInvocation;
 use std::alloc::Global;
 use typed_values::{Address, Sender, TypedValue};
 
-/// The caller that a letter names: its sender, where that is a function.
+/// The caller that a request names of a letter: its sender, where that is a function, and none where it is a split.
 pub fn caller_of(alloc: Global, sender: &Sender) -> Mem<Option<Address>>
     ensures { IfOk result (λ caller. caller ≡ caller_of sender.now) }
 {
@@ -29,7 +30,7 @@ pub fn picked(
     address: &Address,
     picks: &[Sender],
 ) -> Mem<Option<List<BatchInvocation>>>
-    ensures { IfOk result (λ letters. letters ≡ picked (λ sender. mail_of mail.now sender address.now) picks.now) }
+    ensures { IfOk result (λ letters. letters ≡ picked address.now (λ sender. mail_of mail.now sender address.now) picks.now) }
 {
     let mut tally = Numbers::new(alloc);
     let mut letters = List::new(alloc);

@@ -3,8 +3,8 @@ ghost use Rattle.std.specs.Prelude.{◌≡◌, ◌<◌, ◌≤◌, IsTrue, IfOk,
 ghost use Rattle.std.specs.Option.{option_copied};
 ghost use Rattle.run_record.specs.Routing.{is_routable, is_exact, is_wide, endpoint_of, splits_in, ingress_in, targets_of, filled, url_of, letter_of, letters_of};
 
-use crate::{Endpoint, IngressSpec, Module, TypePattern};
-use proto_wire::{List, Mem, Same, Text, TryClone};
+use crate::{Endpoint, IngressSpec, Module};
+use proto_wire::{List, Mem, Text, TryClone};
 use sf_outside::IngressRecord;
 use std::alloc::Global;
 use std::marker::Model;
@@ -180,8 +180,7 @@ fn is_exact(kind: &TypeName, endpoint: &Endpoint) -> bool
     ensures { result ≡ is_exact kind.now endpoint.now }
 {
     match &endpoint.pattern.name {
-        Some(name) => name.is_same(&kind.name)
-            && endpoint.pattern.namespace.is_same(&kind.namespace),
+        Some(name) => *name == kind.name && endpoint.pattern.namespace == kind.namespace,
         None => false,
     }
 }
@@ -192,7 +191,7 @@ fn is_wide(kind: &TypeName, endpoint: &Endpoint) -> bool
 {
     match &endpoint.pattern.name {
         Some(_) => false,
-        None => endpoint.pattern.namespace.is_same(&kind.namespace),
+        None => endpoint.pattern.namespace == kind.namespace,
     }
 }
 

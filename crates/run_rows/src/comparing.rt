@@ -1,10 +1,10 @@
 //! What a replayed machine holds, beside what was written.
 use proto_wire::{Bytes, Mem, Text, TryClone};
 use row_text::Failure;
-use run_record::{Machine, Module, put_address, put_egress_line};
+use run_record::{Machine, Module, put_egress_line};
 use sf_outside::IngressRecord;
 use std::alloc::Global;
-use typed_values::{Address, EgressRecord, Sender, TypeName, TypedValue};
+use typed_values::{Address, EgressRecord, Sender, TypeName, TypedValue, put_address_text};
 
 /// What a machine holds.
 #[derive(Drop)]
@@ -100,7 +100,7 @@ fn waiting(machine: &Machine, address: &Address) -> usize {
 /// The lines that were written of an address.
 fn told_of(alloc: Global, address: &Address, written: &str) -> Mem<Bytes> {
     let mut head = Bytes::new(alloc);
-    put_address(&mut head, address)?;
+    put_address_text(&mut head, address)?;
     head.push(b' ')?;
     let mut told = Bytes::new(alloc);
     for line in written.lines() {

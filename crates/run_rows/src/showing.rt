@@ -24,7 +24,7 @@ pub(crate) fn shown(alloc: Global, line: &str) -> Result<String, Failure> {
 fn end_shown(alloc: Global, field: &str) -> Result<String, Failure> {
     let end = end_of(alloc, field)?;
     let mut line = Bytes::new(alloc);
-    end.put_line(alloc, &mut line, 0)?;
+    end.put_line(&mut line, 0)?;
     let mut text = String::new(alloc);
     put_written(&mut text, str::from_utf8(line.as_slice())?)?;
     let status = end.status();

@@ -6,8 +6,8 @@ use Rattle.std.specs.Io.KnownBytes.{Keeps}
 use Rattle.proto_wire.specs.declared.fault.WireFault.{WireFault}
 use Rattle.proto_wire.specs.declared.fault.WireKind.{WireKind}
 use Rattle.proto_wire.specs.declared.fault.WireKind.TheVariants.{Truncated, LongVarint, FieldZero, TagTooLarge, WireType, NotUtf8, NoMember, OverLimit}
-use Rattle.proto_wire.specs.Varint.{◌>>=◌, groups, varint_in}
-use Rattle.proto_wire.specs.Message.{value_in}
+use Rattle.proto_wire.specs.Varint.{ItemFault, ◌>>=◌, groups, varint_in}
+use Rattle.proto_wire.specs.Message.{value_of}
 use Rattle.sf_outside.specs.declared.ingress.IngressRecord.{IngressRecord}
 use Rattle.sf_outside.specs.declared.front.Front.{Front}
 use Rattle.sf_outside.specs.declared.front.Front.TheVariants.{Cut, Bad, Whole}
@@ -17,7 +17,7 @@ use Rattle.sf_outside.specs.Unread.{AreAdded}
 -- ---- a length that ends is the same whatever follows it
 
 abbrev Read : Type 0
-Read = Result (ℕ × List ℕ) WireFault
+Read = Result (ℕ × List ℕ) ItemFault
 
 abbrev ok : ℕ × List ℕ → Read
 ok read = Ok read
@@ -43,18 +43,15 @@ group_more false b bytes more (Ok high) longer on x rest e =
     let is : got ≡ (x, rest) = read_is got (x, rest) e in
     rw (on high.0 high.1 refl) (ap (λ (q : ℕ × List ℕ). ok (q.0, q.1 ++ more)) is)
 
-groups_more : (at most : ℕ) (bytes more : List ℕ) → GoesOn (groups at most bytes) (groups at most (bytes ++ more)) more
+groups_more : (left left_now most : ℕ) (bytes more : List ℕ) → GoesOn (groups left most bytes) (groups left_now most (bytes ++ more)) more
 unfolding groups
-groups_more at zero bytes more x rest e = absurd cc
-groups_more at (suc most) [] more x rest e = absurd cc
-groups_more at (suc most) (b ∷ bytes) more x rest e = group_more (ltb b 128) b bytes more (groups at most bytes) (groups at most (bytes ++ more)) (groups_more at most bytes more) x rest e
+groups_more left left_now zero bytes more x rest e = absurd cc
+groups_more left left_now (suc most) [] more x rest e = absurd cc
+groups_more left left_now (suc most) (b ∷ bytes) more x rest e = group_more (ltb b 128) b bytes more (groups left most bytes) (groups left_now most (bytes ++ more)) (groups_more left left_now most bytes more) x rest e
 
-len_more : (bytes more : List ℕ) → GoesOn (varint_in 0 bytes) (varint_in 0 (bytes ++ more)) more
+len_more : (bytes more : List ℕ) → GoesOn (varint_in bytes) (varint_in (bytes ++ more)) more
 unfolding varint_in
-len_more bytes more x rest e =
-    let none : 0 - length bytes ≡ 0 = omega arith in
-    let none_more : 0 - length (bytes ++ more) ≡ 0 = omega arith in
-    rw none_more (groups_more 0 10 bytes more x rest (rw none at e))
+len_more bytes more x rest e = groups_more (length bytes) (length (bytes ++ more)) 10 bytes more x rest e
 
 -- ---- so is a whole record
 
@@ -79,11 +76,11 @@ whole_is : (short : Bool) (m : ℕ) (value : Value) (it : IngressRecord) (n : �
 whole_is true m value it n e = absurd cc
 whole_is false m value it n e = let v = value_is m value it n e in (refl, v.0, v.1)
 
-framed_more : (log more : List ℕ) (read : Read) (it : IngressRecord) (n : ℕ) → varint_in 0 log ≡ read → framed log read ≡ Whole it n → (front_of (log ++ more) ≡ Whole it n) × (n ≤ length log)
+framed_more : (log more : List ℕ) (read : Read) (it : IngressRecord) (n : ℕ) → varint_in log ≡ read → framed log read ≡ Whole it n → (front_of (log ++ more) ≡ Whole it n) × (n ≤ length log)
 unfolding front_of
 framed_more log more (Err f) it n r e = absurd (faulty_not_whole f.kind it n e)
 framed_more log more (Ok len) it n r e =
-    let w = whole_is (ltb (length len.1) len.0) (length log - length (drop len.0 len.1)) (value_in record_rows empty_record 0 (take len.0 len.1)) it n e in
+    let w = whole_is (ltb (length len.1) len.0) (length log - length (drop len.0 len.1)) (value_of record_rows empty_record (take len.0 len.1)) it n e in
     let le : len.0 ≤ length len.1 = ltb-false _ _ w.0 in
     let longer : ltb (length (len.1 ++ more)) len.0 ≡ false = le-ltb _ _ (omega (arith, length-append len.1 more)) in
     let same : length (log ++ more) - length (drop len.0 len.1 ++ more) ≡ n = omega (arith, length-append log more, length-append (drop len.0 len.1) more, w.2) in
@@ -91,7 +88,7 @@ framed_more log more (Ok len) it n r e =
 
 pub front_more : (log more : List ℕ) (it : IngressRecord) (n : ℕ) → front_of log ≡ Whole it n → (front_of (log ++ more) ≡ Whole it n) × (n ≤ length log)
 unfolding front_of
-front_more log more it n e = framed_more log more (varint_in 0 log) it n refl e
+front_more log more it n e = framed_more log more (varint_in log) it n refl e
 
 -- ---- reading with bytes ahead
 

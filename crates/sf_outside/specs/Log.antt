@@ -1,10 +1,11 @@
 -- Ingress logs: for each record the length of a message, as a varint, and the message.
-use Rattle.std.specs.Prelude.{◌≡◌, ◌≢◌, ℕ, zero, suc, ◌-◌, List, [], ◌∷◌, ◌++◌, length, take, drop, Option, Some, None, Result, Ok, Err, nat_lt, if◌then◌else◌, option_map}
+use Rattle.std.specs.Prelude.{◌≡◌, ◌≢◌, ℕ, zero, suc, ◌-◌, List, [], ◌∷◌, ◌++◌, length, take, drop, Option, Some, None, Result, Ok, Err, nat_lt}
+use Rattle.std.specs.Prelude.{if◌then◌else◌, option_map}
 use Rattle.proto_wire.specs.declared.fault.WireFault.{WireFault}
 use Rattle.proto_wire.specs.declared.fault.WireKind.{WireKind}
 use Rattle.proto_wire.specs.declared.fault.WireKind.TheVariants.{Truncated}
-use Rattle.proto_wire.specs.Varint.{varint_in}
-use Rattle.proto_wire.specs.Message.{Row, texts, bytes, value_in}
+use Rattle.proto_wire.specs.Varint.{ItemFault, varint_in}
+use Rattle.proto_wire.specs.Message.{Row, texts, bytes, value_of}
 use Rattle.sf_outside.specs.declared.ingress.IngressRecord.{IngressRecord}
 use Rattle.sf_outside.specs.declared.front.Front.{Front}
 use Rattle.sf_outside.specs.declared.front.Front.TheVariants.{Cut, Bad, Whole}
@@ -30,15 +31,15 @@ message len (Ok it) = Whole it len
 message len (Err e) = Bad
 
 -- what a length says of all the bytes
-abbrev pub framed : List ℕ → Result (ℕ × List ℕ) WireFault → Front
+abbrev pub framed : List ℕ → Result (ℕ × List ℕ) ItemFault → Front
 framed log (Err e) = faulty e.kind
 framed log (Ok len) =
     if nat_lt (length len.1) len.0 then Cut
-    else message (length log - length (drop len.0 len.1)) (value_in record_rows empty_record 0 (take len.0 len.1))
+    else message (length log - length (drop len.0 len.1)) (value_of record_rows empty_record (take len.0 len.1))
 
 -- what stands at the front of a log: a whole record and its length, a record that is cut, or bytes that are no record
 unfoldable pub front_of : List ℕ → Front
-front_of log = framed log (varint_in 0 log)
+front_of log = framed log (varint_in log)
 
 -- the record at the front, if there is one
 abbrev pub first_record : Front → Option IngressRecord

@@ -1,7 +1,5 @@
 //! Calls of functions over a link, and what becomes of them.
-ghost use Rattle.std.specs.Prelude.{◌≡◌, ◌↔◌, IsTrue};
-
-use proto_wire::{Bytes, Mem, Same, Text, TryClone};
+use proto_wire::{Bytes, Mem, Text, TryClone};
 use std::alloc::Global;
 
 /// The number of a call: no two calls of a run have the same one.
@@ -15,14 +13,14 @@ pub struct Call {
     pub turn: u32,
 }
 
-impl Same for Call {
-    fn is_same(&self, other: &Call) -> bool {
-        self.leg == other.leg && self.partition == other.partition && self.turn == other.turn
+impl TryClone for Call {
+    fn try_clone(&self, _alloc: Global) -> Mem<Call> {
+        Ok(*self)
     }
 }
 
 /// What became of a call.
-#[derive(PartialEq, Eq, Drop)]
+#[derive(Drop)]
 pub enum Answered {
     /// The endpoint's answer.
     Answer(Bytes),
@@ -40,7 +38,7 @@ impl TryClone for Answered {
 }
 
 /// What a link tells of one call. It may come late, and more than once.
-#[derive(PartialEq, Eq, Drop)]
+#[derive(Drop)]
 pub struct Outcome {
     pub call: Call,
     pub what: Answered,
@@ -56,7 +54,7 @@ impl TryClone for Outcome {
 }
 
 /// One thing that a link did.
-#[derive(PartialEq, Eq, Drop)]
+#[derive(Drop)]
 pub enum LinkEvent {
     /// It started a call: `request` goes to `url`.
     Started {
@@ -68,11 +66,38 @@ pub enum LinkEvent {
     Polled(Option<Outcome>),
 }
 
+impl TryClone for LinkEvent {
+    fn try_clone(&self, alloc: Global) -> Mem<LinkEvent> {
+        match self {
+            LinkEvent::Started { call, url, request } => Ok(LinkEvent::Started {
+                call: *call,
+                url: url.try_clone(alloc)?,
+                request: request.try_clone(alloc)?,
+            }),
+            LinkEvent::Polled(None) => Ok(LinkEvent::Polled(None)),
+            LinkEvent::Polled(Some(outcome)) => {
+                Ok(LinkEvent::Polled(Some(outcome.try_clone(alloc)?)))
+            }
+        }
+    }
+}
+
 /// One request and the answer that the endpoint gave to it.
-#[derive(PartialEq, Eq, Drop)]
+#[derive(Drop)]
 pub struct Exchange {
     pub call: Call,
     pub url: Text,
     pub request: Bytes,
     pub answer: Bytes,
+}
+
+impl TryClone for Exchange {
+    fn try_clone(&self, alloc: Global) -> Mem<Exchange> {
+        Ok(Exchange {
+            call: self.call,
+            url: self.url.try_clone(alloc)?,
+            request: self.request.try_clone(alloc)?,
+            answer: self.answer.try_clone(alloc)?,
+        })
+    }
 }

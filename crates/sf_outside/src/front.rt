@@ -4,13 +4,13 @@ ghost use Rattle.sf_outside.specs.Log.{empty_record, record_rows, front_of, fram
 
 use crate::IngressRecord;
 use proto_wire::{
-    Bytes, DecodeFault, Mem, Message, OutOfMemory, Record, Text, WireFault, WireKind, bytes_size,
-    merge, varint_in, with_bytes, with_text,
+    Bytes, Decode, DecodeFault, Mem, OutOfMemory, Record, Text, WireFault, WireKind, decoded,
+    varint_in,
 };
 use std::alloc::Global;
 
 /// The message of a log: the key is field 1, a string, and the value is field 2, bytes.
-impl Message for IngressRecord {
+impl Decode for IngressRecord {
     ghost rows = { record_rows };
 
     ghost empty = { empty_record };
@@ -32,17 +32,6 @@ impl Message for IngressRecord {
         }
         Ok(())
     }
-
-    #[tactic(auto, unfolding(crate::specs::Log::record_rows))]
-    fn size(&self) -> u64 {
-        bytes_size(1, self.key.as_bytes()).saturating_add(bytes_size(2, self.value.as_slice()))
-    }
-
-    #[tactic(auto, unfolding(crate::specs::Log::record_rows))]
-    fn put(&self, into: Bytes) -> Mem<Bytes> {
-        let into = with_text(into, 1, &self.key)?;
-        with_bytes(into, 2, self.value.as_slice())
-    }
 }
 
 /// What stands at the front of a log.
@@ -61,7 +50,7 @@ pub enum Front {
 pub(crate) fn front_of(alloc: Global, log: &[u8]) -> Mem<Front>
     ensures { IfOk result (λ front. front ≡ front_of log.now) }
 {
-    match varint_in(0, log) {
+    match varint_in(log.len(), log) {
         Ok((len, rest)) => framed(alloc, log.len(), len, rest),
         Err(
             WireFault {
@@ -80,9 +69,8 @@ fn framed(alloc: Global, total: usize, len: u64, rest: &[u8]) -> Mem<Front>
         return Ok(Front::Cut);
     }
     let (payload, after) = rest.split_at(len as usize);
-    let mut record = IngressRecord::blank(alloc);
-    match merge(alloc, &mut record, 0, payload) {
-        Ok(()) => Ok(Front::Whole(record, total.saturating_sub(after.len()))),
+    match decoded(alloc, payload) {
+        Ok(record) => Ok(Front::Whole(record, total.saturating_sub(after.len()))),
         Err(DecodeFault::Wire(_)) => Ok(Front::Bad),
         Err(DecodeFault::OutOfMemory) => Err(OutOfMemory),
     }

@@ -1,6 +1,6 @@
 use super::*;
 use crate::split_log::SplitLog;
-use proto_wire::{Bytes, List, Message, OutOfMemory, Text, put_varint};
+use proto_wire::{Bytes, List, OutOfMemory, Text, put_bytes, put_varint};
 use std::alloc::Global;
 use std::io::{ErrorKind, Read, Seek, SeekFrom, Write};
 use std::process::Abort;
@@ -306,9 +306,12 @@ fn reader_source_tells_faults(rt: HostRuntime) -> Result<(), Fail> {
 fn log(alloc: Global, keys: &[&str]) -> Result<Bytes, OutOfMemory> {
     let mut log = Bytes::new(alloc);
     for key in keys {
-        let message = record(alloc, key)?;
-        put_varint(&mut log, message.size())?;
-        log = message.put(log)?;
+        let read = record(alloc, key)?;
+        let mut message = Bytes::new(alloc);
+        put_bytes(&mut message, 1, read.key.as_bytes())?;
+        put_bytes(&mut message, 2, read.value.as_slice())?;
+        put_varint(&mut log, message.len() as u64)?;
+        log.append(message.as_slice())?;
     }
     Ok(log)
 }

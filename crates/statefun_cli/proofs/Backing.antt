@@ -22,7 +22,7 @@ use Rattle.run_record.specs.declared.module.Module.{Module}
 use Rattle.run_record.specs.Routing.{url_of}
 use Rattle.run_record.specs.Machine.{first_state}
 use Rattle.run_record.specs.Backed.{AreBacked, IsBackedReply}
-use Rattle.run_record.specs.Laws.{AreBacked-push}
+use Rattle.run_record.proofs.LawsOfSteps.{AreBacked-push}
 use Rattle.statefun_cli.specs.Turns.{Heard, Work, Status, Going, Cut, Ended, Turned, Fate, Open, TooLate, Told, call_in, own_outcome, fate_by, fate_of, take_entry, work_read, request_for, start_of, batch_entry, judged_turn, fated_turn, asked_turn, turned, go_on, turns_from, turns_of, no_work, records_heard}
 use Rattle.statefun_cli.specs.Polling.{IsOwnAnswer}
 use Rattle.statefun_cli.specs.Words.{plain_module}

@@ -48,8 +48,8 @@ is_kind names text kinds accepted none = go _ _ refl refl (sym (any_kind names t
 pub asked_by : (names : Bor (List (Bor (List ℕ)))) (words : List (List ℕ)) (error : Error) (ask : DecodeAsk) → AreKinds names
     → HasKind (fault_of (decode_app names) words) error → IsAskOf (kind_of error) ask → AsksFor words ask
 asked_by names words error (Lines kind) kinds has asked = absurd asked
-asked_by names words error (Help text) kinds (inl memory) asked = absurd cc
-asked_by names words error (Help text) kinds (inr among) asked = record { names = names; kinds = kinds; refused = rw asked at among }
+asked_by names words error Help kinds (inl memory) asked = absurd cc
+asked_by names words error Help kinds (inr among) asked = record { names = names; kinds = kinds; refused = rw asked at among }
 asked_by names words error Usage kinds (inl memory) asked = absurd (asked.0 memory)
 asked_by names words error Usage kinds (inr among) asked = record { cause = kind_of error; refused = record { names = names; kinds = kinds; refused = among }; no_help = asked.1 }
 

@@ -19,7 +19,7 @@ use Rattle.statefun_cli.specs.declared.decode.DecodeEnd.{DecodeEnd}
 use Rattle.statefun_cli.specs.declared.decode.DecodeEnd.TheVariants.{Decoded, Faulty, Help, Usage, ReadFault}
 use Rattle.statefun_cli.specs.Kinds.{word_of}
 use Rattle.statefun_cli.specs.DecodeWords.{IsRefused, decode_app}
-use Rattle.statefun_cli.specs.Decode.{AsksForHelp, IsAnswered, IsAsked, IsAskedRun, IsDecoded, IsHelpRun, IsRightRun, IsSettled, IsUnread, Outside, Tells, decode_status, end_by, lines_of}
+use Rattle.statefun_cli.specs.Decode.{AsksForHelp, IsAnswered, IsAsked, IsAskedRun, IsDecoded, IsHelpRun, IsRightRun, IsSettled, IsUnread, Outside, Tells, decode_status, end_by, help_text, lines_of}
 use Rattle.statefun_cli.proofs.DecodeAsked.{help_is_shown, long_help_is_shown, right_is_taken, right_value}
 
 -- what one more read puts behind the bytes so far was the next that was left
@@ -60,7 +60,7 @@ decoded_by words kind first before after end None right asked answered = record 
 decoded_by words kind first before after end (Some (Lines k)) right asked answered =
     let value = ap (λ w. one_of (codes "KIND") (matches_of (decode_app asked.names) w)) right ∙ right_value asked.names first kind in
     subst (λ (k : MessageKind). IsDecoded k before after end) (same_kind k kind (sym asked.value ∙ value)) answered
-decoded_by words kind first before after end (Some (HelpAsked text)) right asked answered = absurd (not_refused words kind first _ right asked)
+decoded_by words kind first before after end (Some HelpAsked) right asked answered = absurd (not_refused words kind first _ right asked)
 decoded_by words kind first before after end (Some UsageAsked) right asked answered = absurd (not_refused words kind first _ right asked.refused)
 
 -- a run on right words decodes a message of their kind
@@ -86,11 +86,11 @@ among_help cause (k ∷ []) e (inr among) = absurd among
 among_help cause (k ∷ l ∷ ks) e (inr among) = absurd cc
 
 helped_by : (words : List (List ℕ)) (before after : Outside) (end : Result DecodeEnd Fault) (ask : Option DecodeAsk) → AsksForHelp words → IsAsked words ask → IsAnswered ask before after end
-    → IsUnread before after × ((text : List ℕ) × Tells before.written after.written text Help end)
+    → IsUnread before after × Tells before.written after.written help_text Help end
 helped_by words before after end None help asked answered =
-    (answered.0, ([], subst (λ (end : Result DecodeEnd Fault). Tells before.written after.written [] Help end) (sym answered.1) (0, omega arith, answered.2 ∙ sym (more-nil before.written))))
+    (answered.0, subst (λ (end : Result DecodeEnd Fault). Tells before.written after.written help_text Help end) (sym answered.1) (0, omega arith, answered.2 ∙ sym (more-nil before.written)))
 helped_by words before after end (Some (Lines k)) help asked answered = let only = only_help words help asked.names in let none = asked.taken in absurd cc
-helped_by words before after end (Some (HelpAsked text)) help asked answered = (answered.0, (text, answered.1))
+helped_by words before after end (Some HelpAsked) help asked answered = answered
 helped_by words before after end (Some UsageAsked) help asked answered =
     absurd (asked.no_help (among_help asked.cause _ (only_help words help asked.refused.names) asked.refused.refused))
 
@@ -98,7 +98,7 @@ pub help_run : (words : List (List ℕ)) (before after : Outside) (end : Result 
     → IsAskedRun words before after end → status ≡ decode_status end → AsksForHelp words → IsHelpRun before after status
 help_run words before after end status run is help =
     let helped = helped_by words before after end run.ask help run.asked run.answered in
-    record { end = end; status_is = is; unread = helped.0; text = helped.1.0; told = helped.1.1; sink_cause = run.sink_cause }
+    record { end = end; status_is = is; unread = helped.0; told = helped.1; sink_cause = run.sink_cause }
 
 -- ---- faults by the status
 
@@ -126,15 +126,15 @@ end_no_fault (Ok lines) e = cc
 end_no_fault (Err fault) e = cc
 
 settled_fault : (kind : MessageKind) (heard : List ℕ) (before after : Outside) (end : Result DecodeEnd Fault) (read : Result (Unit {0}) Fault) → IsSettled read kind heard before after end
-    → HasCause before.reads after.reads read → end ≡ Ok ReadFault → Rose before.reads after.reads
+    → HasCause before.read_faults after.read_faults read → end ≡ Ok ReadFault → Rose before.read_faults after.read_faults
 settled_fault kind heard before after end (Ok x) settled cause is = absurd (end_no_fault (lines_of kind heard) (told_no_fault _ _ _ _ end settled.1 is))
 settled_fault kind heard before after end (Err Failed) settled cause is = cause.1
 settled_fault kind heard before after end (Err OutOfMemory) settled cause is = let memory = settled.0 in absurd cc
 
-answered_fault : (before after : Outside) (end : Result DecodeEnd Fault) (ask : Option DecodeAsk) → IsAnswered ask before after end → end ≡ Ok ReadFault → Rose before.reads after.reads
+answered_fault : (before after : Outside) (end : Result DecodeEnd Fault) (ask : Option DecodeAsk) → IsAnswered ask before after end → end ≡ Ok ReadFault → Rose before.read_faults after.read_faults
 answered_fault before after end None answered is = let memory = answered.1 in absurd cc
 answered_fault before after end (Some (Lines kind)) answered is = settled_fault kind answered.heard before after end answered.read answered.settled answered.read_cause is
-answered_fault before after end (Some (HelpAsked text)) answered is = let told = told_no_fault _ _ text Help end answered.1 is in absurd cc
+answered_fault before after end (Some HelpAsked) answered is = let told = told_no_fault _ _ help_text Help end answered.1 is in absurd cc
 answered_fault before after end (Some UsageAsked) answered is = let told = told_no_fault _ _ _ Usage end answered.1 is in absurd cc
 
 ends_read_fault : (end : Result DecodeEnd Fault) (status : ℕ) → status ≡ decode_status end → status ≡ 9 → end ≡ Ok ReadFault
@@ -147,5 +147,5 @@ ends_read_fault (Err Failed) status is at = absurd (omega arith)
 ends_read_fault (Err OutOfMemory) status is at = absurd (omega arith)
 
 pub read_fault : (words : List (List ℕ)) (before after : Outside) (end : Result DecodeEnd Fault) (status : ℕ)
-    → IsAskedRun words before after end → status ≡ decode_status end → status ≡ 9 → Rose before.reads after.reads
+    → IsAskedRun words before after end → status ≡ decode_status end → status ≡ 9 → Rose before.read_faults after.read_faults
 read_fault words before after end status run is at = answered_fault before after end run.ask run.answered (ends_read_fault end status is at)

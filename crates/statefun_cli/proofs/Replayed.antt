@@ -12,7 +12,7 @@ use Rattle.run_record.specs.declared.entry.Entry.{Entry}
 use Rattle.run_record.specs.Machine.{State, first_state, step_after, replayed}
 use Rattle.run_record.specs.Backed.{AreBacked}
 use Rattle.statefun_cli.specs.Making.{LegsBelow}
-use Rattle.run_record.specs.LawsOfEgress.{egress_of-first}
+use Rattle.run_record.proofs.LawsOfEgress.{egress_of-first}
 use Rattle.statefun_cli.specs.declared.end.PlainEnd.{PlainEnd}
 use Rattle.statefun_cli.specs.declared.end.PlainEnd.TheVariants.{Done, Usage, TurnsSpent, EndpointFailed, IngressFault, LinkFault, SinkFault, OutOfMemory}
 use Rattle.statefun_cli.specs.Words.{plain_module, IsPlain}

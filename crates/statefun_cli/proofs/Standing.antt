@@ -8,8 +8,10 @@ use Rattle.typed_values.specs.declared.address.Address.{Address}
 use Rattle.typed_values.specs.declared.value.TypedValue.{TypedValue}
 use Rattle.typed_values.specs.declared.letter.Sender.{Sender}
 use Rattle.typed_values.specs.declared.letter.Letter.{Letter}
-use Rattle.typed_values.specs.Sameness.{same_sender, same_address, same_sender-Decides, same_address-Decides}
-use Rattle.run_record.specs.Machine.{Mail, posted, posted_all, unpicked, picked, invocation_of}
+use Rattle.typed_values.specs.Sameness.{same_sender, same_address}
+use Rattle.typed_values.proofs.Sameness.{same_sender-Decides, same_address-Decides}
+use Rattle.run_record.specs.Machine.{Mail, posted, posted_all, unpicked, picked}
+use Rattle.request_reply.specs.Letters.{invocation_of}
 
 -- the arguments of those letters that are from a sender to an address, in order
 abbrev pub of_pair : Letter → Sender → Address → Bool
@@ -69,6 +71,6 @@ unpicked-front mail letter others is sender target =
     ∙ drop_picked (same_sender letter.sender sender) (same_address letter.target target) letter.argument (waiting_of sender target others)
 
 -- the pick of the letter in front
-pub picked-front : (mail : Sender → List TypedValue) (letter : Letter) (rest : List TypedValue) → mail letter.sender ≡ letter.argument ∷ rest → picked mail (letter.sender ∷ []) ≡ Some (invocation_of letter.sender letter.argument ∷ [])
+pub picked-front : (mail : Sender → List TypedValue) (letter : Letter) (rest : List TypedValue) → mail letter.sender ≡ letter.argument ∷ rest → picked letter.target mail (letter.sender ∷ []) ≡ Some (invocation_of letter ∷ [])
 unfolding picked
 picked-front mail letter rest e = rw e refl

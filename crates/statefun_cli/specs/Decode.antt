@@ -58,21 +58,33 @@ decode_status (Ok ReadFault) = 9
 decode_status (Err Failed) = 11
 decode_status (Err OutOfMemory) = 15
 
+-- what is written where help is asked for
+unfoldable pub help_text : List ℕ
+help_text =
+    codes "Reads a message from standard input and writes it as lines\n\nUsage: statefun decode <KIND>\n\nArguments:\n"
+    ++ (codes "  <KIND>  What is decoded: a request to a function or an answer from one [possible values: to, from]\n\n"
+    ++ codes "Options:\n  -h, --help  Print help\n")
+
 -- ---- what stands outside
 
 -- what a source has left and a sink holds, where they tell it, and how often each failed
 pub record Outside : Type 0 where
   pub left : Option (List ℕ)
-  pub reads : ℕ
+  pub read_faults : ℕ
   pub written : Option (List ℕ)
-  pub writes : ℕ
+  pub write_faults : ℕ
 
 abbrev pub outside : Option (List ℕ) → ℕ → Option (List ℕ) → ℕ → Outside
-outside left reads written writes = record { left = left; reads = reads; written = written; writes = writes }
+outside left read_faults written write_faults = record {
+  left = left;
+  read_faults = read_faults;
+  written = written;
+  write_faults = write_faults;
+}
 
 -- nothing was read
 abbrev pub IsUnread : Outside → Outside → Type 0
-IsUnread before after = (after.left ≡ before.left) × (after.reads ≡ before.reads)
+IsUnread before after = (after.left ≡ before.left) × (after.read_faults ≡ before.read_faults)
 
 -- An end was told: its text was written whole. Where the sink failed or memory ran out, a part of it was, from the front.
 abbrev pub Tells : Option (List ℕ) → Option (List ℕ) → List ℕ → DecodeEnd → Result DecodeEnd Fault → Type 0
@@ -86,7 +98,9 @@ IsWhole heard left = length heard ≤ limit → AtEnd left
 -- What becomes of the bytes that were heard, by how the reading ended: they are all, or too many, and their text is told; a
 -- read failed, which is told; or memory ran out.
 abbrev pub IsSettled : Result (Unit {0}) Fault → MessageKind → List ℕ → Outside → Outside → Result DecodeEnd Fault → Type 0
-IsSettled (Ok x) kind heard before after end = IsWhole heard after.left × Tells before.written after.written (decode_text kind heard) (decode_end kind heard) end
+IsSettled (Ok x) kind heard before after end =
+    IsWhole heard after.left
+    × Tells before.written after.written (decode_text kind heard) (decode_end kind heard) end
 IsSettled (Err Failed) kind heard before after end = Tells before.written after.written (codes "read fault" ++ 10 ∷ []) ReadFault end
 IsSettled (Err OutOfMemory) kind heard before after end = (end ≡ Err OutOfMemory) × (after.written ≡ before.written)
 
@@ -97,14 +111,14 @@ pub record IsDecoded (kind : MessageKind) (before after : Outside) (end : Result
   pub taken : before.left ≡ ahead heard after.left
   pub bound : length heard ≤ limit + 1
   pub read : Result (Unit {0}) Fault
-  pub read_cause : HasCause before.reads after.reads read
+  pub read_cause : HasCause before.read_faults after.read_faults read
   pub settled : IsSettled read kind heard before after end
 
 -- what was asked for was done; nothing where memory ran out at the words
 abbrev pub IsAnswered : Option DecodeAsk → Outside → Outside → Result DecodeEnd Fault → Type 0
 IsAnswered None before after end = IsUnread before after × (end ≡ Err OutOfMemory) × (after.written ≡ before.written)
 IsAnswered (Some (Lines kind)) before after end = IsDecoded kind before after end
-IsAnswered (Some (HelpAsked text)) before after end = IsUnread before after × Tells before.written after.written text Help end
+IsAnswered (Some HelpAsked) before after end = IsUnread before after × Tells before.written after.written help_text Help end
 IsAnswered (Some UsageAsked) before after end = IsUnread before after × Tells before.written after.written (codes "usage" ++ 10 ∷ []) Usage end
 
 abbrev pub IsAsked : List (List ℕ) → Option DecodeAsk → Type 0
@@ -116,7 +130,7 @@ pub record IsAskedRun (words : List (List ℕ)) (before after : Outside) (end : 
   pub ask : Option DecodeAsk
   pub asked : IsAsked words ask
   pub answered : IsAnswered ask before after end
-  pub sink_cause : HasCause before.writes after.writes end
+  pub sink_cause : HasCause before.write_faults after.write_faults end
 
 -- and to its status
 pub record IsDecodeRun (words : List (List ℕ)) (before after : Outside) (status : ℕ) : Type 0 where
@@ -129,9 +143,9 @@ pub record IsRightRun (kind : MessageKind) (before after : Outside) (status : �
   pub end : Result DecodeEnd Fault
   pub status_is : status ≡ decode_status end
   pub decoded : IsDecoded kind before after end
-  pub sink_cause : HasCause before.writes after.writes end
+  pub sink_cause : HasCause before.write_faults after.write_faults end
 
--- A run that is asked for help by `-h` or `--help` writes a text, and reads nothing.
+-- A run that is asked for help by `-h` or `--help` writes the help, and reads nothing.
 abbrev pub AsksForHelp : List (List ℕ) → Type 0
 AsksForHelp words = (first : List ℕ) × ((words ≡ first ∷ codes "-h" ∷ []) ⊎ (words ≡ first ∷ codes "--help" ∷ []))
 
@@ -139,6 +153,5 @@ pub record IsHelpRun (before after : Outside) (status : ℕ) : Type 0 where
   pub end : Result DecodeEnd Fault
   pub status_is : status ≡ decode_status end
   pub unread : IsUnread before after
-  pub text : List ℕ
-  pub told : Tells before.written after.written text Help end
-  pub sink_cause : HasCause before.writes after.writes end
+  pub told : Tells before.written after.written help_text Help end
+  pub sink_cause : HasCause before.write_faults after.write_faults end

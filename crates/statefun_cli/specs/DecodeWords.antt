@@ -45,11 +45,11 @@ pub record IsWrong (words : List (List ℕ)) : Type 0 where
 -- what is asked for by words that are refused for a cause
 abbrev pub IsAskOf : ErrorKind → DecodeAsk → Type 0
 IsAskOf cause (Lines kind) = ⊥
-IsAskOf cause (Help text) = cause ≡ DisplayHelp
+IsAskOf cause Help = cause ≡ DisplayHelp
 IsAskOf cause Usage = (cause ≢ OutOfMemory) × (cause ≢ DisplayHelp)
 
 -- what is asked for is what clap makes of the words
 abbrev pub AsksFor : List (List ℕ) → DecodeAsk → Type 0
 AsksFor words (Lines kind) = IsTaken words kind
-AsksFor words (Help text) = IsRefused words DisplayHelp
+AsksFor words Help = IsRefused words DisplayHelp
 AsksFor words Usage = IsWrong words

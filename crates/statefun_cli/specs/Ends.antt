@@ -3,10 +3,11 @@ use Rattle.std.specs.Prelude.{ℕ, codes, List, [], ◌∷◌, ◌++◌}
 use Rattle.std.specs.List.{flat_map}
 use Rattle.std.specs.Fmt.{decimal}
 use Rattle.request_reply.specs.declared.flaw.FlawKind.{FlawKind}
-use Rattle.request_reply.specs.declared.flaw.FlawKind.TheVariants.{Wire, BadMutation, UnknownName, TypeDiffers, TooLarge, NoEndpoint, NegativeDelay, EmptyToken, UnknownEgress, BadExpiry, TooMany, NoNewName, NotBuilt}
+use Rattle.request_reply.specs.declared.flaw.FlawKind.TheVariants.{Wire, BadMutation, UnknownName, TypeDiffers, TooLarge, NoEndpoint, NegativeDelay}
+use Rattle.request_reply.specs.declared.flaw.FlawKind.TheVariants.{EmptyToken, UnknownEgress, BadExpiry, TooMany, NoNewName, NotBuilt}
 use Rattle.request_reply.specs.declared.flaw.Reason.{Reason}
 use Rattle.request_reply.specs.declared.flaw.Reason.TheVariants.{Lost, Late, Refused}
-use Rattle.run_record.specs.Egress.{address_text}
+use Rattle.typed_values.specs.Escape.{address_text}
 use Rattle.statefun_cli.specs.declared.end.PlainEnd.{PlainEnd}
 use Rattle.statefun_cli.specs.declared.end.PlainEnd.TheVariants.{Done, Usage, TurnsSpent, EndpointFailed, IngressFault, LinkFault, SinkFault, OutOfMemory}
 

@@ -32,7 +32,9 @@ LegsBelow n (Started call url request ∷ events) = (call.leg < n) × LegsBelow 
 LegsBelow n (Polled poll ∷ events) = LegsBelow n events
 
 -- what was heard of a turn's call is what the link did: its polls are in the journal, and an answer was exchanged
-pub record IsHeard (patience turn : ℕ) (read : Option IngressRecord) (before after : Option (List LinkEvent)) (exchanges : List Exchange) (heard : Heard) (made : Turned) : Type 0 where
+pub record IsHeard
+    (patience turn : ℕ) (read : Option IngressRecord) (before after : Option (List LinkEvent)) (exchanges : List Exchange)
+    (heard : Heard) (made : Turned) : Type 0 where
   pub read_is : heard.read ≡ read
   pub its : AreItsPolls patience (call_in turn) heard.polls
   pub journal : after ≡ more before made.events
@@ -40,13 +42,17 @@ pub record IsHeard (patience turn : ℕ) (read : Option IngressRecord) (before a
   pub answered : (what : Answered) → own_outcome (call_in turn) heard.polls ≡ Some what → IsOwnAnswer after exchanges (call_in turn) what
 
 -- A letter was asked for, with others behind it: something was heard of which the turn's work and its end come.
-pub record IsAsked (m : Module) (patience turn : ℕ) (read : Option IngressRecord) (work : Work) (waiting : List Letter) (new : Work) (before after : Option (List LinkEvent)) (exchanges : List Exchange) (end : Option PlainEnd) : Type 0 where
+pub record IsAsked
+    (m : Module) (patience turn : ℕ) (read : Option IngressRecord) (work : Work) (waiting : List Letter) (new : Work)
+    (before after : Option (List LinkEvent)) (exchanges : List Exchange) (end : Option PlainEnd) : Type 0 where
   pub heard : Heard
   pub is_heard : IsHeard patience turn read before after exchanges heard (asked_turn m patience turn heard work waiting)
   pub end_is : IsTurnEnd (asked_turn m patience turn heard work waiting) new end
 
 -- A turn was made: something was heard of which its work and its end come.
-pub record IsTurnMade (m : Module) (patience turn : ℕ) (read : Option IngressRecord) (old new : Work) (before after : Option (List LinkEvent)) (exchanges : List Exchange) (end : Option PlainEnd) : Type 0 where
+pub record IsTurnMade
+    (m : Module) (patience turn : ℕ) (read : Option IngressRecord) (old new : Work)
+    (before after : Option (List LinkEvent)) (exchanges : List Exchange) (end : Option PlainEnd) : Type 0 where
   pub heard : Heard
   pub is_heard : IsHeard patience turn read before after exchanges heard (turned m patience turn heard old)
   pub end_is : IsTurnEnd (turned m patience turn heard old) new end

@@ -9,7 +9,7 @@ use Rattle.run_record.specs.declared.entry.Entry.{Entry}
 use Rattle.typed_values.specs.declared.name.TypeName.{TypeName}
 use Rattle.typed_values.specs.declared.address.Address.{Address}
 use Rattle.run_record.specs.Machine.{State, first_state, replayed}
-use Rattle.run_record.specs.LawsOfEgress.{arguments_at}
+use Rattle.run_record.specs.Egress.{arguments_at, egress_of, egress_text}
 use Rattle.run_record.specs.Backed.{AreBacked}
 use Rattle.run_record.specs.declared.entry.Step.{Step}
 use Rattle.run_record.specs.declared.entry.Step.TheVariants.{Take, Batch}
@@ -19,7 +19,6 @@ use Rattle.request_reply.specs.declared.answer.InvocationResponse.{InvocationRes
 use Rattle.request_reply.specs.declared.judging.Judged.TheVariants.{Accept}
 use Rattle.request_reply.specs.Valid.{verdict}
 use Rattle.statefun_cli.specs.Turns.{Heard, call_in, own_outcome, turns_of}
-use Rattle.run_record.specs.Egress.{egress_of, egress_text}
 use Rattle.statefun_cli.specs.declared.end.PlainEnd.{PlainEnd}
 use Rattle.statefun_cli.specs.declared.end.PlainEnd.TheVariants.{Done, Usage, TurnsSpent, IngressFault, LinkFault, SinkFault, OutOfMemory}
 use Rattle.statefun_cli.specs.Ends.{end_line}
@@ -53,7 +52,9 @@ counts_of ingress_faults link_faults losses = record { ingress_faults = ingress_
 
 -- A run of a plan's turns: it came to an end, of which the egress text of its record and the line were written. The ingress
 -- or the link failed exactly where that end is its fault, and a call was lost where that end says so.
-pub record IsPlainRun (m : Module) (patience turns : ℕ) (lists : Option Lists) (before after : Option (List LinkEvent)) (exchanges : List Exchange) (written written' : Option (List ℕ)) (counts counts' : Counts) (entries : List Entry) (end : PlainEnd) : Type 0 where
+pub record IsPlainRun
+    (m : Module) (patience turns : ℕ) (lists : Option Lists) (before after : Option (List LinkEvent)) (exchanges : List Exchange)
+    (written written' : Option (List ℕ)) (counts counts' : Counts) (entries : List Entry) (end : PlainEnd) : Type 0 where
   pub told : PlainEnd
   pub run : IsRun m patience turns lists before after exchanges entries told
   pub tells : IsTold written written' (egress_text (egress_of m entries)) turns told end
@@ -124,7 +125,9 @@ IsComplete end = ⊥
 
 -- Something was heard, which is what the link did, such that where no count rose and each call was answered by a valid answer
 -- before it was late, the run was done, made all its turns, or ran out of memory.
-pub record IsCompleteRun (m : Module) (patience : ℕ) (before after : Option (List LinkEvent)) (counts counts' : Counts) (sink sink' : ℕ) (end : PlainEnd) : Type 0 where
+pub record IsCompleteRun
+    (m : Module) (patience : ℕ) (before after : Option (List LinkEvent)) (counts counts' : Counts) (sink sink' : ℕ) (end : PlainEnd) : Type 0 where
   pub heard : List Heard
   pub journal : after ≡ more before (turns_of m patience heard).events
-  pub complete : (Rose counts.ingress_faults counts'.ingress_faults → ⊥) → (Rose counts.link_faults counts'.link_faults → ⊥) → (Rose sink sink' → ⊥) → AreServed m 1 heard → IsComplete end
+  pub complete : (Rose counts.ingress_faults counts'.ingress_faults → ⊥) → (Rose counts.link_faults counts'.link_faults → ⊥)
+      → (Rose sink sink' → ⊥) → AreServed m 1 heard → IsComplete end

@@ -25,7 +25,9 @@ IsOwnAnswer (Some events) exchanges call (Answer answer) = IsExchanged events ex
 IsOwnAnswer (Some events) exchanges call (Lost note) = Unit {0}
 
 -- these polls were heard, and this is what came of them
-pub record IsWaited (before after : Option (List LinkEvent)) (patience : ℕ) (call : Call) (polls : List (Option Outcome)) (answer : Result (Option Answered) Fault) : Type 0 where
+pub record IsWaited
+    (before after : Option (List LinkEvent)) (patience : ℕ) (call : Call) (polls : List (Option Outcome))
+    (answer : Result (Option Answered) Fault) : Type 0 where
   pub journal : after ≡ more before (map Polled polls)
   pub its : AreItsPolls patience call polls
   pub fate : IsFateOf patience call polls answer

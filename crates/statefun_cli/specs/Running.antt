@@ -25,7 +25,8 @@ pub record IsProper (patience turn : ℕ) (journal : Option (List LinkEvent)) (e
 -- and so for all turns from this number on
 abbrev pub AreProper : ℕ → ℕ → Option (List LinkEvent) → List Exchange → List Heard → Type 0
 AreProper patience turn journal exchanges [] = Unit {0}
-AreProper patience turn journal exchanges (heard ∷ later) = IsProper patience turn journal exchanges heard × AreProper patience (turn + 1) journal exchanges later
+AreProper patience turn journal exchanges (heard ∷ later) =
+    IsProper patience turn journal exchanges heard × AreProper patience (turn + 1) journal exchanges later
 
 -- A run ends as its turns say; with all turns made and none that ended it, they are spent.
 abbrev pub IsRunEnd : Turned → ℕ → ℕ → List Entry → PlainEnd → Type 0
@@ -44,7 +45,9 @@ is_done end = false
 
 -- A run is turns after each of which it went on, and perhaps the turn in which it ended. What was heard in them is what the
 -- ingress' list has and what the link did, and the record and the end are those of the turns.
-pub record IsRun (m : Module) (patience turns : ℕ) (lists : Option Lists) (before after : Option (List LinkEvent)) (exchanges : List Exchange) (entries : List Entry) (end : PlainEnd) : Type 0 where
+pub record IsRun
+    (m : Module) (patience turns : ℕ) (lists : Option Lists) (before after : Option (List LinkEvent)) (exchanges : List Exchange)
+    (entries : List Entry) (end : PlainEnd) : Type 0 where
   pub whole : List Heard
   pub last : Option Heard
   pub going : (turns_of m patience whole).status ≡ Going

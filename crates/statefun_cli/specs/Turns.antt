@@ -22,7 +22,8 @@ use Rattle.run_record.specs.declared.module.Module.{Module}
 use Rattle.run_record.specs.declared.entry.Entry.{Entry}
 use Rattle.run_record.specs.declared.entry.Step.TheVariants.{Take, Batch}
 use Rattle.run_record.specs.Routing.{letters_of, url_of}
-use Rattle.run_record.specs.Machine.{batch_of, invocation_of}
+use Rattle.request_reply.specs.Letters.{invocation_of}
+use Rattle.run_record.specs.Machine.{batch_of}
 use Rattle.statefun_cli.specs.declared.end.PlainEnd.{PlainEnd}
 use Rattle.statefun_cli.specs.declared.end.PlainEnd.TheVariants.{Done, EndpointFailed}
 
@@ -112,7 +113,7 @@ work_read m turn (Some taken) work = record {
 
 -- the request for a letter: a batch of it alone
 abbrev pub request_for : Letter → ToFunction
-request_for letter = batch_of letter.target [] (invocation_of letter.sender letter.argument ∷ [])
+request_for letter = batch_of letter.target [] (invocation_of letter ∷ [])
 
 abbrev pub start_of : Module → ℕ → Letter → LinkEvent
 start_of m turn letter = Started (call_in turn) (unwrap_or (url_of m letter.target.kind) []) (to_spelling (request_for letter))
@@ -153,20 +154,23 @@ abbrev pub judged_turn : ℕ → Option IngressRecord → Sender → Address →
 judged_turn turn read sender target others answer work events (Accept response) =
     let served = work_served turn read sender target others answer work in
     record { work = served; events = events; status = status_at read served }
-judged_turn turn read sender target others answer work events (Flaw flaw) = record { work = work; events = events; status = failed target (Refused answer flaw) }
+judged_turn turn read sender target others answer work events (Flaw flaw) =
+    record { work = work; events = events; status = failed target (Refused answer flaw) }
 
 abbrev pub fated_turn : Module → ℕ → Option IngressRecord → Sender → Address → List Letter → Work → List LinkEvent → Fate → Turned
 fated_turn m turn read sender target others work events Open = record { work = work; events = events; status = Cut }
 fated_turn m turn read sender target others work events TooLate = record { work = work; events = events; status = failed target Late }
 fated_turn m turn read sender target others work events (Told (NoAnswer note)) = record { work = work; events = events; status = failed target (Lost note) }
-fated_turn m turn read sender target others work events (Told (Answer answer)) = judged_turn turn read sender target others answer work events (verdict m.egresses answer)
+fated_turn m turn read sender target others work events (Told (Answer answer)) =
+    judged_turn turn read sender target others answer work events (verdict m.egresses answer)
 
 -- the letter that has waited longest is asked for
 abbrev pub asked_turn : Module → ℕ → ℕ → Heard → Work → List Letter → Turned
 asked_turn m patience turn heard work [] = record { work = work; events = []; status = status_at heard.read work }
 asked_turn m patience turn heard work (letter ∷ others) =
     if heard.started
-    then fated_turn m turn heard.read letter.sender letter.target others work (start_of m turn letter ∷ map Polled heard.polls) (fate_of patience (call_in turn) heard.polls)
+    then fated_turn m turn heard.read letter.sender letter.target others work
+    (start_of m turn letter ∷ map Polled heard.polls) (fate_of patience (call_in turn) heard.polls)
     else record { work = work; events = []; status = Cut }
 
 -- A turn: the record that was read becomes letters; then the letter that has waited longest is asked for.
@@ -186,7 +190,9 @@ go_on (Ended by) first later = first
 -- the turns from this number on, one after the other, as long as the run goes on
 unfoldable pub turns_from : Module → ℕ → ℕ → List Heard → Work → Turned
 turns_from m patience turn [] work = record { work = work; events = []; status = Going }
-turns_from m patience turn (heard ∷ later) work = let first = turned m patience turn heard work in go_on first.status first (turns_from m patience (turn + 1) later)
+turns_from m patience turn (heard ∷ later) work =
+    let first = turned m patience turn heard work in
+    go_on first.status first (turns_from m patience (turn + 1) later)
 
 -- the turns of a run
 unfoldable pub turns_of : Module → ℕ → List Heard → Turned

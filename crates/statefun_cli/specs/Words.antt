@@ -1,5 +1,6 @@
 -- The words `run TYPE URL VALUETYPE EGRESS --turns N`, and what they ask for.
-use Rattle.std.specs.Prelude.{◌≡◌, ℕ, ◌+◌, ◌<◌, ◌≤◌, nat_eq, nat_lt, nat_le, codes, List, [], ◌∷◌, ◌++◌, Bool, false, not, ◌&&◌, ◌||◌, ◌==◌, length, take, drop, slice_get, slice_index, if◌then◌else◌, Option, Some, None, option_and_then, Result, Ok, Err}
+use Rattle.std.specs.Prelude.{◌≡◌, ℕ, ◌+◌, ◌<◌, ◌≤◌, nat_eq, nat_lt, nat_le, codes, List, [], ◌∷◌, ◌++◌, Bool, false, not, ◌&&◌, ◌||◌, ◌==◌, length}
+use Rattle.std.specs.Prelude.{take, drop, slice_get, slice_index, if◌then◌else◌, Option, Some, None, option_and_then, Result, Ok, Err}
 use Rattle.std.specs.Option.{option_map_or, ok_or}
 use Rattle.std.specs.List.{starts_with}
 use Rattle.std.specs.Str.{all_ascii_digits}
@@ -58,7 +59,10 @@ is_at words place word = option_map_or (same_bytes word) (slice_get words place)
 
 -- from place 5 on `--turns N` or `--turns=N`, and nothing behind
 unfoldable pub turns_of : List (List ℕ) → Result ℕ ℕ
-turns_of words = if is_at words 5 (codes "--turns") then read_at turns_in words 6 >>= ending_at words 7 else read_at joined_turns_in words 5 >>= ending_at words 6
+turns_of words =
+    if is_at words 5 (codes "--turns")
+    then read_at turns_in words 6 >>= ending_at words 7
+    else read_at joined_turns_in words 5 >>= ending_at words 6
 
 -- ---- the plan
 

@@ -2,12 +2,11 @@
 ghost use Rattle.std.specs.Prelude.{◌≡◌, ◌<◌, ◌^◌, [], ◌∷◌, length, Some, IsSome, IfOk, unwrap_or};
 ghost use Rattle.request_reply.specs.Spelling.{to_spelling};
 ghost use Rattle.run_record.specs.Routing.{url_of};
-ghost use Rattle.run_record.specs.Machine.{caller_of};
 ghost use Rattle.statefun_cli.specs.Turns.{request_for};
 
-use proto_wire::{Bytes, List, Mem, Text, TryClone};
+use proto_wire::{Bytes, List, Mem, Text};
 use request_reply::{BatchInvocation, InvocationBatchRequest, ToFunction, encode_to};
-use run_record::Routes;
+use run_record::{Routes, caller_of};
 use std::alloc::Global;
 use typed_values::{Address, Letter, Sender};
 
@@ -62,16 +61,6 @@ fn url_for(alloc: Global, routes: &Routes, target: &Address) -> Mem<Text>
     match routes.url_of(alloc, &target.kind)? {
         Some(url) => Ok(url),
         None => Ok(Text::new(alloc)),
-    }
-}
-
-// A caller stands only for a function's letter.
-fn caller_of(alloc: Global, sender: &Sender) -> Mem<Option<Address>>
-    ensures { IfOk result (λ caller. caller ≡ caller_of sender.now) }
-{
-    match sender {
-        Sender::Split(_) => Ok(None),
-        Sender::Function(caller) => Ok(Some(caller.try_clone(alloc)?)),
     }
 }
 

@@ -7,6 +7,7 @@ ghost use Rattle.statefun_cli.specs.Kinds.{word_of};
 ghost use Rattle.statefun_cli.specs.DecodeWords.{IsWrong};
 ghost use Rattle.statefun_cli.specs.Decode.{AsksForHelp, IsAnswered, IsAskedRun, IsDecodeRun, IsDecoded, IsHelpRun, IsRightRun, Tells, decode_end, decode_status, decode_text, outside};
 
+use crate::decode_help::help_text;
 use crate::input::read_to_end;
 use crate::message_lines::put_message;
 use crate::{DecodeAsk, MessageKind, read_decode_words, write_whole};
@@ -15,7 +16,7 @@ use sf_outside::{Fault, Sink, Source};
 use std::alloc::Global;
 
 /// What a decoding comes to.
-#[derive(Clone, Copy, Debug, PartialEq, Eq)]
+#[derive(Clone, Copy, Debug)]
 pub enum DecodeEnd {
     /// The lines of the message.
     Decoded,
@@ -50,7 +51,7 @@ pub fn statefun_decode<S: Source, O: Sink>(
         → IsRightRun kind (outside (S.left input.old) (S.faults input.old) (O.written out.old) (O.faults out.old))
         (outside (S.left input.new) (S.faults input.new) (O.written out.new) (O.faults out.new)) result }
 
-    // `-h` and `--help` ask for help, and nothing is read.
+    // `-h` and `--help` ask for help, whose text is written, and nothing is read.
     ensures help { AsksForHelp (map string_bytes words.now) → IsHelpRun (outside (S.left input.old) (S.faults input.old) (O.written out.old) (O.faults out.old))
         (outside (S.left input.new) (S.faults input.new) (O.written out.new) (O.faults out.new)) result }
 
@@ -102,7 +103,7 @@ fn answer<S: Source, O: Sink>(
 {
     match ask {
         DecodeAsk::Lines(kind) => decode_input(alloc, kind, input, out),
-        DecodeAsk::Help(text) => tell(out, DecodeEnd::Help, text.as_slice()),
+        DecodeAsk::Help => tell(out, DecodeEnd::Help, help_text().as_bytes()),
         DecodeAsk::Usage => tell(out, DecodeEnd::Usage, b"usage\n"),
     }
 }

@@ -7,12 +7,12 @@ ghost use Rattle.statefun_cli.specs.DecodeWords.{AsksFor, IsAskOf};
 
 use clap::error::ErrorKind;
 use clap::{Arg, ArgAction, Command, Error};
-use proto_wire::{Bytes, Mem, OutOfMemory};
+use proto_wire::{Mem, OutOfMemory};
 use std::alloc::Global;
 use std::str::FromStr;
 
 /// A kind of message between the runtime and its functions.
-#[derive(Clone, Copy, Debug, PartialEq, Eq)]
+#[derive(Clone, Copy, Debug)]
 pub enum MessageKind {
     /// A request, which goes to a function.
     Request,
@@ -21,7 +21,7 @@ pub enum MessageKind {
 }
 
 /// A word that names no kind of message.
-#[derive(Clone, Copy, Debug, PartialEq, Eq)]
+#[derive(Clone, Copy, Debug)]
 pub struct UnknownKind;
 
 impl FromStr for MessageKind {
@@ -45,8 +45,8 @@ impl FromStr for MessageKind {
 pub enum DecodeAsk {
     /// The lines of a message of this kind.
     Lines(MessageKind),
-    /// This text of help.
-    Help(Bytes),
+    /// Help on the command.
+    Help,
     /// How the command is used, since they are wrong.
     Usage,
 }
@@ -61,23 +61,19 @@ pub fn read_decode_words(alloc: Global, words: &[String]) -> Mem<DecodeAsk>
     let kind = Arg::new(alloc, "KIND")
         .required(true)
         .action(ArgAction::Set)
-        .value_parser(KINDS.as_slice())
-        .help("What is decoded: a request to a function or an answer from one");
-    let command = Command::new(alloc, "decode")
-        .about("Reads a message from standard input and writes it as lines")
-        .bin_name("statefun decode")?
-        .arg(kind)?;
+        .value_parser(KINDS.as_slice());
+    let command = Command::new(alloc, "decode").arg(kind)?;
     match command.try_get_matches_from(words) {
         Ok(matches) => match matches.get_one::<MessageKind>("KIND") {
             Some(kind) => Ok(DecodeAsk::Lines(kind)),
             None => unreachable!(),
         },
-        Err(error) => refusal(alloc, &error),
+        Err(error) => refusal(&error),
     }
 }
 
 /// What words ask for that `clap` refuses.
-fn refusal(alloc: Global, error: &Error) -> Mem<DecodeAsk>
+fn refusal(error: &Error) -> Mem<DecodeAsk>
     ensures { IfOk result (λ ask. IsAskOf (kind_of error.now) ask) }
 {
     let cause = error.kind();
@@ -85,8 +81,7 @@ fn refusal(alloc: Global, error: &Error) -> Mem<DecodeAsk>
         return Err(OutOfMemory);
     }
     if cause == ErrorKind::DisplayHelp {
-        let text = format!(in alloc; "{error}")?;
-        return Ok(DecodeAsk::Help(Bytes::copy_of(alloc, text.as_bytes())?));
+        return Ok(DecodeAsk::Help);
     }
     Ok(DecodeAsk::Usage)
 }

@@ -5,7 +5,7 @@ use run_record::Entry;
 use typed_values::Address;
 
 /// How a run without a folder ends.
-#[derive(PartialEq, Eq, Drop)]
+#[derive(Drop)]
 pub enum PlainEnd {
     /// All records of the ingress were taken, and all letters delivered.
     Done {

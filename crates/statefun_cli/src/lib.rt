@@ -3,6 +3,7 @@
 
 mod asking;
 mod decode;
+mod decode_help;
 mod decode_words;
 mod drive;
 mod end;

@@ -1,16 +1,14 @@
 //! The statuses and lines of ends.
 ghost use Rattle.std.specs.Prelude.{◌≡◌, [], ◌∷◌, ◌++◌, codes, OnOk, OnErr};
 ghost use Rattle.std.specs.Fmt.{decimal};
-ghost use Rattle.run_record.specs.Egress.{StartsAs, address_text};
+ghost use Rattle.typed_values.specs.Escape.{StartsAs, address_text};
 ghost use Rattle.statefun_cli.specs.Ends.{status_of, flaw_name, reason_text, reasons_text, end_line};
 
 use crate::PlainEnd;
 use message_text::put_decimal;
 use proto_wire::{Bytes, Mem};
 use request_reply::{FlawKind, Reason};
-use run_record::put_address;
-use std::alloc::Global;
-use typed_values::Address;
+use typed_values::{Address, put_address_text};
 
 impl PlainEnd {
     /// The status with which the program ends.
@@ -31,20 +29,19 @@ impl PlainEnd {
 
     /// Adds the line of this end, with its line feed, of a run with at most so many turns; a sink that failed and want of
     /// memory have none. An `Err` leaves what stood there with a part of the line behind it.
-    pub fn put_line(&self, alloc: Global, into: &mut Bytes, turns: u64) -> Mem<()>
+    pub fn put_line(&self, into: &mut Bytes, turns: u64) -> Mem<()>
         ensures ok { OnOk result (into.new ≡ into.old ++ end_line self.now turns) }
         ensures err { OnErr result (StartsAs into.old into.new) }
     {
         match self {
-            PlainEnd::Done { taken } => put_count(alloc, into, b"done taken ", *taken),
-            PlainEnd::Usage { word } => put_count(alloc, into, b"usage word ", u64::from(*word)),
+            PlainEnd::Done { taken } => put_count(into, b"done taken ", *taken),
+            PlainEnd::Usage { word } => put_count(into, b"usage word ", u64::from(*word)),
             PlainEnd::TurnsSpent { taken } => {
                 into.append(b"turns ")?;
-                put_decimal(alloc, into, turns)?;
-                put_count(alloc, into, b" taken ", *taken)
+                put_decimal(into, turns)?;
+                put_count(into, b" taken ", *taken)
             }
             PlainEnd::EndpointFailed { address, reasons } => put_failed(
-                alloc,
                 into,
                 address,
                 reasons.as_slice(),
@@ -58,52 +55,52 @@ impl PlainEnd {
 }
 
 /// Adds words, a number and a line feed.
-fn put_count(alloc: Global, into: &mut Bytes, words: &[u8], number: u64) -> Mem<()>
+fn put_count(into: &mut Bytes, words: &[u8], number: u64) -> Mem<()>
     ensures ok { OnOk result (into.new ≡ into.old ++ (words.now ++ (decimal number ++ 10 ∷ []))) }
     ensures err { OnErr result (StartsAs into.old into.new) }
 {
     into.append(words)?;
-    put_decimal(alloc, into, number)?;
+    put_decimal(into, number)?;
     into.push(b'\n')?;
     Ok(())
 }
 
-fn put_failed(alloc: Global, into: &mut Bytes, address: &Address, reasons: &[Reason]) -> Mem<()>
+fn put_failed(into: &mut Bytes, address: &Address, reasons: &[Reason]) -> Mem<()>
     ensures ok { OnOk result (into.new ≡ into.old ++ (codes "endpoint failed " ++ (address_text address.now ++ (reasons_text reasons.now ++ 10 ∷ [])))) }
     ensures err { OnErr result (StartsAs into.old into.new) }
 {
     into.append(b"endpoint failed ")?;
-    put_address(into, address)?;
-    put_reasons(alloc, into, reasons)?;
+    put_address_text(into, address)?;
+    put_reasons(into, reasons)?;
     into.push(b'\n')?;
     Ok(())
 }
 
-fn put_reasons(alloc: Global, into: &mut Bytes, reasons: &[Reason]) -> Mem<()>
+fn put_reasons(into: &mut Bytes, reasons: &[Reason]) -> Mem<()>
     ensures ok { OnOk result (into.new ≡ into.old ++ reasons_text reasons.now) }
     ensures err { OnErr result (StartsAs into.old into.new) }
 {
     for reason in reasons {
-        put_reason(alloc, into, reason)?;
+        put_reason(into, reason)?;
     }
     Ok(())
 }
 
-fn put_reason(alloc: Global, into: &mut Bytes, reason: &Reason) -> Mem<()>
+fn put_reason(into: &mut Bytes, reason: &Reason) -> Mem<()>
     ensures ok { OnOk result (into.new ≡ into.old ++ reason_text reason.now) }
     ensures err { OnErr result (StartsAs into.old into.new) }
 {
     match reason {
         Reason::Lost(code) => {
             into.append(b" lost:")?;
-            put_decimal(alloc, into, u64::from(*code))
+            put_decimal(into, u64::from(*code))
         }
         Reason::Late => into.append(b" late"),
         Reason::Refused { flaw, .. } => {
             into.append(b" refused:")?;
             into.append(flaw_name(flaw.kind).as_bytes())?;
             into.push(b':')?;
-            put_decimal(alloc, into, u64::from(flaw.index))
+            put_decimal(into, u64::from(flaw.index))
         }
     }
 }

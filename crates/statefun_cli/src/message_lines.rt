@@ -24,7 +24,7 @@ pub(crate) fn put_message(
     ensures text { OnOk result (into.new ≡ into.old ++ decode_text kind bytes.now) }
 {
     if bytes.len() > LIMIT {
-        return put_fault(alloc, into, &over_limit());
+        return put_fault(into, &over_limit());
     }
     match kind {
         MessageKind::Request => put_request(alloc, into, bytes),
@@ -49,10 +49,10 @@ fn put_request(alloc: Global, into: &mut Bytes, bytes: &[u8]) -> Mem<DecodeEnd>
 {
     match decode_to(alloc, bytes) {
         Ok(request) => {
-            put_request_lines(alloc, into, &request)?;
+            put_request_lines(into, &request)?;
             Ok(DecodeEnd::Decoded)
         }
-        Err(DecodeFault::Wire(fault)) => put_fault(alloc, into, &fault),
+        Err(DecodeFault::Wire(fault)) => put_fault(into, &fault),
         Err(DecodeFault::OutOfMemory) => Err(OutOfMemory),
     }
 }
@@ -64,18 +64,18 @@ fn put_answer(alloc: Global, into: &mut Bytes, bytes: &[u8]) -> Mem<DecodeEnd>
 {
     match decode_from(alloc, bytes) {
         Ok(answer) => {
-            put_answer_lines(alloc, into, &answer)?;
+            put_answer_lines(into, &answer)?;
             Ok(DecodeEnd::Decoded)
         }
-        Err(DecodeFault::Wire(fault)) => put_fault(alloc, into, &fault),
+        Err(DecodeFault::Wire(fault)) => put_fault(into, &fault),
         Err(DecodeFault::OutOfMemory) => Err(OutOfMemory),
     }
 }
 
-fn put_fault(alloc: Global, into: &mut Bytes, fault: &WireFault) -> Mem<DecodeEnd>
+fn put_fault(into: &mut Bytes, fault: &WireFault) -> Mem<DecodeEnd>
     ensures told { IfOk result (λ told. told ≡ Faulty) }
     ensures text { OnOk result (into.new ≡ into.old ++ fault_line fault.now) }
 {
-    put_fault_line(alloc, into, fault)?;
+    put_fault_line(into, fault)?;
     Ok(DecodeEnd::Faulty)
 }

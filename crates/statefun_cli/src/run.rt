@@ -18,13 +18,13 @@ use sf_outside::{Fault, Ingress, Link, Sink};
 use std::alloc::Global;
 
 /// Tells how a run ended: writes the text and the line of the end behind it. Nothing is written where memory ran out.
-fn tell<O: Sink>(alloc: Global, out: &mut O, end: PlainEnd, mut text: Bytes, turns: u64) -> PlainEnd
+fn tell<O: Sink>(out: &mut O, end: PlainEnd, mut text: Bytes, turns: u64) -> PlainEnd
     requires { IsNoSinkFault end }
     ensures told { IsTold (O.written out.old) (O.written out.new) text turns end result }
     ensures quiet { end ≡ PlainEnd.OutOfMemory → (result ≡ PlainEnd.OutOfMemory) × (O.written out.new ≡ O.written out.old) }
     ensures cause { IsSinkCauseOf (O.faults out.old) (O.faults out.new) result }
 {
-    if matches!(&end, PlainEnd::OutOfMemory) || end.put_line(alloc, &mut text, turns).is_err() {
+    if matches!(&end, PlainEnd::OutOfMemory) || end.put_line(&mut text, turns).is_err() {
         return PlainEnd::OutOfMemory;
     }
     match write_whole(out, text.as_slice()) {
@@ -76,7 +76,7 @@ fn run_plan<I: Ingress, L: Link, O: Sink>(
     let end = drive(alloc, &routes, turns, ingress, link, &mut progress);
     let Progress { entries, text, .. } = progress;
     PlainRun {
-        end: tell(alloc, out, end, text, turns),
+        end: tell(out, end, text, turns),
         entries,
     }
 }
@@ -148,7 +148,7 @@ pub fn statefun_run<I: Ingress, L: Link, O: Sink>(
     match read_words(alloc, words) {
         Ok(plan) => run_plan(alloc, plan, ingress, link, out),
         Err(WordsFault::Usage(word)) => PlainRun {
-            end: tell(alloc, out, PlainEnd::Usage { word }, Bytes::new(alloc), 0),
+            end: tell(out, PlainEnd::Usage { word }, Bytes::new(alloc), 0),
             entries: List::new(alloc),
         },
         Err(WordsFault::OutOfMemory) => out_of_memory(alloc),

@@ -8,9 +8,9 @@ ghost use Rattle.statefun_cli.specs.Words.{command_in, url_in, value_type_in, tu
 ghost use Rattle.statefun_cli.specs.declared.words.WordsFault.TheVariants.{Usage, OutOfMemory as WantsMemory};
 
 use proto_wire::{List, Mem, OutOfMemory, Text, TryClone};
-use run_record::{Endpoint, IngressSpec, Module, TypePattern};
+use run_record::{Endpoint, IngressSpec, Module};
 use std::alloc::Global;
-use typed_values::{NameFault, TypeName, parse_name};
+use typed_values::{NameFault, TypeName, TypePattern, parse_name};
 
 /// What the words of a run ask for.
 #[derive(Drop)]
@@ -21,7 +21,7 @@ pub struct Plan {
 }
 
 /// Why words gave no plan.
-#[derive(Clone, Copy, Debug, PartialEq, Eq)]
+#[derive(Clone, Copy, Debug)]
 pub enum WordsFault {
     /// They are wrong from this word on, counted from 0.
     Usage(u32),

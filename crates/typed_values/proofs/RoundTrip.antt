@@ -48,21 +48,39 @@ sender-again = again empty_sender sender_rows refl sender-copies (λ v. sender-f
 
 pub letter-again : IsAgain empty_letter letter_rows
 unfolding letter_rows empty_letter
-letter-again = again empty_letter letter_rows refl
-    (messages-copies 1 refl empty_sender sender_rows sender-again _ _ (λ into. refl), (messages-copies 2 refl empty_address address_rows address-again _ _ (λ into. refl),
-    (messages-copies 3 refl empty_value value_rows value-again _ _ (λ into. refl), tt))) (λ v. (refl, (refl, (refl, refl))))
+letter-again = again empty_letter letter_rows refl (
+  messages-copies 1 refl empty_sender sender_rows sender-again _ _ (λ into. refl),
+  (
+    messages-copies 2 refl empty_address address_rows address-again _ _ (λ into. refl),
+    (messages-copies 3 refl empty_value value_rows value-again _ _ (λ into. refl), tt),
+  ),
+) (λ v. (refl, (refl, (refl, refl))))
 
 pub delay-again : IsAgain empty_delay delay_rows
 unfolding delay_rows empty_delay
-delay-again = again empty_delay delay_rows refl
-    (messages-copies 1 refl empty_address address_rows address-again _ _ (λ into. refl), (numbers-copies 2 refl _ (λ it new. record it { due = new }), (messages-copies 3 refl empty_address address_rows address-again _ _ (λ into. refl),
-    (texts-copies 4 refl _ _, (messages-copies 5 refl empty_value value_rows value-again _ _ (λ into. refl), tt))))) (λ v. (refl, (refl, (refl, (refl, (refl, refl))))))
+delay-again = again empty_delay delay_rows refl (
+  messages-copies 1 refl empty_address address_rows address-again _ _ (λ into. refl),
+  (
+    numbers-copies 2 refl _ (λ it new. record it { due = new }),
+    (
+      messages-copies 3 refl empty_address address_rows address-again _ _ (λ into. refl),
+      (texts-copies 4 refl _ _, (messages-copies 5 refl empty_value value_rows value-again _ _ (λ into. refl), tt)),
+    ),
+  ),
+) (λ v. (refl, (refl, (refl, (refl, (refl, refl))))))
 
 pub egress-again : IsAgain empty_egress egress_rows
 unfolding egress_rows empty_egress
-egress-again = again empty_egress egress_rows refl
-    (messages-copies 1 refl empty_address address_rows address-again _ _ (λ into. refl), (texts-copies 2 refl _ _, (texts-copies 3 refl _ _,
-    (messages-copies 4 refl empty_value value_rows value-again _ _ (λ into. refl), tt)))) (λ v. (refl, (refl, (refl, (refl, refl)))))
+egress-again = again empty_egress egress_rows refl (
+  messages-copies 1 refl empty_address address_rows address-again _ _ (λ into. refl),
+  (
+    texts-copies 2 refl _ _,
+    (
+      texts-copies 3 refl _ _,
+      (messages-copies 4 refl empty_value value_rows value-again _ _ (λ into. refl), tt),
+    ),
+  ),
+) (λ v. (refl, (refl, (refl, (refl, refl)))))
 
 -- ---- what was written is read again
 

@@ -61,9 +61,11 @@ cuts (x ∷ xs) = behind (round_last_slash xs) (cuts xs)
     counted : (b : Bool) → b ≡ false → count_by (nat_eq 47) xs ≡ 0 → cond b 1 0 + count_by (nat_eq 47) xs ≡ 0
     counted true f h = absurd cc
     counted false f h = omega arith
+
     first : (b : Bool) → nat_eq x 47 ≡ b → count_by (nat_eq 47) xs ≡ 0 → Cuts (x ∷ xs) (cond b (Some ([], xs)) None)
     first true e h = let is : x ≡ 47 = eqb-true x 47 e in record { is = ap (λ (n : ℕ). n ∷ xs) is; clear = h }
     first false e h = let other : nat_eq 47 x ≡ false = grind (arith, nat_tests) in count-cons x xs ∙ counted (nat_eq 47 x) other h
+
     behind : (o : Option (List ℕ × List ℕ)) → Cuts xs o → Cuts (x ∷ xs) (slash_at_last x xs o)
     behind None h = first (nat_eq x 47) refl h
     behind (Some parts) h = record { is = ap (λ (s : List ℕ). x ∷ s) h.is; clear = h.clear }
@@ -84,11 +86,11 @@ named-made text parts name cut e = step (nat_eq (length parts.0) 0 || nat_eq (le
         let some = both-some (nat_eq (length parts.0) 0) (nat_eq (length parts.1) 0) t in
         let P : TypeName → Type 0 = λ n. IsName text n in
         let made : IsName text (record { namespace = parts.0; name = parts.1 }) = record {
-              is = cut.is;
-              has_namespace = some-length (length parts.0) some.0;
-              has_name = some-length (length parts.1) some.1;
-              has_no_slash = cut.clear;
-            } in
+          is = cut.is;
+          has_namespace = some-length (length parts.0) some.0;
+          has_name = some-length (length parts.1) some.1;
+          has_no_slash = cut.clear;
+        } in
         subst P (same_Some _ _ e) made
 
 made-named : (text : List ℕ) (name : TypeName) → IsName text name → option_and_then named (round_last_slash text) ≡ Some name

@@ -3,10 +3,12 @@
 
 mod address;
 mod cell;
+mod escape;
 mod letter;
 mod messages;
 mod name;
 mod parse;
+mod pattern;
 mod reading;
 mod record;
 mod stored;
@@ -16,9 +18,13 @@ mod writing;
 
 pub use address::Address;
 pub use cell::{CellSpec, Expiry};
+pub use escape::{
+    put_address_text, put_escaped, put_hex, put_name_parts, put_name_text, put_value_text,
+};
 pub use letter::{Letter, Sender};
 pub use name::TypeName;
 pub use parse::{NameFault, names_are_made_so, parse_name, parse_type_name};
+pub use pattern::TypePattern;
 pub use record::{Delay, EgressRecord};
 pub use stored::{
     decode_address, decode_delay, decode_egress, decode_letter, decode_sender, decode_value,

@@ -131,8 +131,8 @@ pub fn decode_egress(alloc: Global, bytes: &[u8]) -> Result<EgressRecord, Decode
     ensures { Gives (λ egress. egress) result (egress_value bytes.now) }
 {
     let read: EgressRead = decoded(alloc, bytes)?;
-    match egress_of(read) {
-        Some(egress) => Ok(egress),
-        None => Err(no_member(bytes)),
-    }
+    let Some(egress) = egress_of(read) else {
+        return Err(no_member(bytes));
+    };
+    Ok(egress)
 }

@@ -27,7 +27,7 @@ loop-rest-preserved-then-is c =
     let read = item_of c.in-Ok.read.0 in
     record {
       same = sym (last_of-kept c.args.field c.args.wire (option_map item_of c.loop-rest.found) (Some read) c.loop-rest.rest.now (read, c.in-Ok.read.1.now) some c.in-Ok.ensures.reads
-        (taken _ read _ (sym c.is.ensures ∙ c.if-is.true))) ∙ c.loop-rest.invariant.same;
+          (taken _ read _ (sym c.is.ensures ∙ c.if-is.true))) ∙ c.loop-rest.invariant.same;
       inside = omega (arith, c.loop-rest.invariant.inside);
     }
 
@@ -38,7 +38,7 @@ loop-rest-preserved c =
     let read = item_of c.in-Ok.read.0 in
     record {
       same = sym (last_of-kept c.args.field c.args.wire (option_map item_of c.loop-rest.found) (option_map item_of c.loop-rest.found) c.loop-rest.rest.now (read, c.in-Ok.read.1.now) some c.in-Ok.ensures.reads
-        (left _ read _ (sym c.is.ensures ∙ c.if-is.false))) ∙ c.loop-rest.invariant.same;
+          (left _ read _ (sym c.is.ensures ∙ c.if-is.false))) ∙ c.loop-rest.invariant.same;
       inside = omega (arith, c.loop-rest.invariant.inside);
     }
 

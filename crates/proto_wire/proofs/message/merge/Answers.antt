@@ -26,7 +26,7 @@ returns-in_err-accept g c =
     let p = err_from_is_err_and c.from_residual.result c.from_residual.ensures.1 in
     rw (p.1, p.2, ← c.loop-rest.invariant.same)
     (value_in-refused g.M.Decode.rows c.loop-rest.message c.args.end c.in-Ok.read.0.end c.loop-rest.rest.now (item_of c.in-Ok.read.0, c.in-Ok.read.1.now) c.in_err-accept.field-0.0 some
-      c.loop-rest.invariant.inside c.in-Ok.ensures.placed.at c.in-Ok.ensures.reads c.in_err-accept.ensures.changes)
+    c.loop-rest.invariant.inside c.in-Ok.ensures.placed.at c.in-Ok.ensures.reads c.in_err-accept.ensures.changes)
 
 pub returns : goal.returns
 returns g c = sym c.loop-rest.invariant.same ∙ value_in-end g.M.Decode.rows c.loop-rest.message c.loop-rest.rest.now (grind (arith, nat_tests))

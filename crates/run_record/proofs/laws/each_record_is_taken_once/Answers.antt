@@ -1,5 +1,5 @@
 use Rattle.run_record.specs.Machine.{first_state}
-use Rattle.run_record.specs.LawsOfMail.{taken_once}
+use Rattle.run_record.proofs.LawsOfMail.{taken_once}
 use Rattle.run_record.proofs.laws.each_record_is_taken_once.Goals as goal
 
 pub returns : goal.returns

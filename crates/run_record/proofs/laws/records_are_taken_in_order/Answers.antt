@@ -1,7 +1,7 @@
 use Rattle.std.proofs.Common.{arith, ap, ◌∙◌, ◌≡◌}
 use Rattle.run_record.specs.Machine.{first_state}
 use Rattle.run_record.specs.Deliveries.{counting}
-use Rattle.run_record.specs.LawsOfMail.{numbers_taken-are}
+use Rattle.run_record.proofs.LawsOfMail.{numbers_taken-are}
 use Rattle.run_record.proofs.laws.records_are_taken_in_order.Goals as goal
 
 pub returns : goal.returns

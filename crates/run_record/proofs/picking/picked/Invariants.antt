@@ -11,5 +11,5 @@ use Rattle.run_record.proofs.picking.picked.Given as goal
 abbrev pub invariant-loop-sender : goal.invariant-loop-sender
 invariant-loop-sender l = record {
   counted : (sender : Sender) → number_at sender_order l.tally.numbers sender ≡ count_by (same_sender sender) (take l.sender-index l.fn.picks);
-  so_far : picked (λ sender. mail_of l.fn.mail sender l.fn.address) l.fn.picks ≡ picked_on (λ sender. mail_of l.fn.mail sender l.fn.address) l.fn.picks l.sender-index l.letters;
+  so_far : picked l.fn.address (λ sender. mail_of l.fn.mail sender l.fn.address) l.fn.picks ≡ picked_on l.fn.address (λ sender. mail_of l.fn.mail sender l.fn.address) l.fn.picks l.sender-index l.letters;
 }

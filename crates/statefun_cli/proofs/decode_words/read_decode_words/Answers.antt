@@ -14,13 +14,13 @@ pub unreachable-requires : goal.unreachable-requires
 unreachable-requires c =
     let names = c.as_slice.result in
     let kinds : AreKinds names = search rules in
-    let arg = c.help-kind.result in
-    let given = c.value_parser.ensures.given in
-    let parser : arg.value_parser ≡ Some (Names names) = ap (λ a. a.value_parser) c.help-kind.ensures ∙ (given.1 ∙ ap Some given.2) in
+    let arg = c.value_parser-kind.result in
+    let given = c.value_parser-kind.ensures.given in
+    let parser : arg.value_parser ≡ Some (Names names) = given.1 ∙ ap Some given.2 in
     let rule_is : rule_of arg ≡ kind_rule names = search rules in
     let name_id : arg.id.now ≡ codes "KIND" = search rules in
     let first : (t : List ℕ) → arg.id.now ≡ t → slice_index t 0 ≡ 75 = λ t e. rw (← e, name_id) refl in
-    let read = one_required_read c.in_ok-bin_name.field-0 c.in_ok-command.command arg c.in-Ok.matches
+    let read = one_required_read c.new-2.result c.in_ok-command.command arg c.in-Ok.matches
     c.in_ok-command.ensures (search rules) (search rules) (search rules) (search rules) (search rules) (search rules) (search rules)
     (search rules) (search rules) (search rules)
     (λ e. let bad : 0 ≡ 75 = first [] e in absurd (omega arith))
@@ -37,18 +37,18 @@ pub returns-in-Some : goal.returns-in-Some
 returns-in-Some c =
     let names = c.as_slice.result in
     let kinds : AreKinds names = search rules in
-    let arg = c.help-kind.result in
-    let given = c.value_parser.ensures.given in
-    let parser : arg.value_parser ≡ Some (Names names) = ap (λ a. a.value_parser) c.help-kind.ensures ∙ (given.1 ∙ ap Some given.2) in
+    let arg = c.value_parser-kind.result in
+    let given = c.value_parser-kind.ensures.given in
+    let parser : arg.value_parser ≡ Some (Names names) = given.1 ∙ ap Some given.2 in
     let rule_is : rule_of arg ≡ kind_rule names = search rules in
     let words = map (string_bytes {Z = Global}) c.args.words.now in
     let command = c.in_ok-command.command in
     let app_is : app_of command ≡ decode_app names = c.in_ok-command.ensures.shape (search rules)
-    ∙ ap₂ with_rule (ap app_of_fields c.in_ok-bin_name.ensures.0 ∙ (ap app_of_fields c.about.ensures ∙ c.new-2.ensures.app)) rule_is in
+    ∙ ap₂ with_rule c.new-2.ensures.app rule_is in
     let free : is_simple_and_free (app_of command) ≡ true = ap is_simple_and_free app_is ∙ is_free_decode names in
     let name_id : arg.id.now ≡ codes "KIND" = search rules in
     let first : (t : List ℕ) → arg.id.now ≡ t → slice_index t 0 ≡ 75 = λ t e. rw (← e, name_id) refl in
-    let read = one_required_read c.in_ok-bin_name.field-0 c.in_ok-command.command arg c.in-Ok.matches
+    let read = one_required_read c.new-2.result c.in_ok-command.command arg c.in-Ok.matches
     c.in_ok-command.ensures (search rules) (search rules) (search rules) (search rules) (search rules) (search rules) (search rules)
     (search rules) (search rules) (search rules)
     (λ e. let bad : 0 ≡ 75 = first [] e in absurd (omega arith))
@@ -67,14 +67,14 @@ pub returns-in-Err : goal.returns-in-Err
 returns-in-Err c =
     let names = c.as_slice.result in
     let kinds : AreKinds names = search rules in
-    let arg = c.help-kind.result in
-    let given = c.value_parser.ensures.given in
-    let parser : arg.value_parser ≡ Some (Names names) = ap (λ a. a.value_parser) c.help-kind.ensures ∙ (given.1 ∙ ap Some given.2) in
+    let arg = c.value_parser-kind.result in
+    let given = c.value_parser-kind.ensures.given in
+    let parser : arg.value_parser ≡ Some (Names names) = given.1 ∙ ap Some given.2 in
     let rule_is : rule_of arg ≡ kind_rule names = search rules in
     let words = map (string_bytes {Z = Global}) c.args.words.now in
     let command = c.in_ok-command.command in
     let app_is : app_of command ≡ decode_app names = c.in_ok-command.ensures.shape (search rules)
-    ∙ ap₂ with_rule (ap app_of_fields c.in_ok-bin_name.ensures.0 ∙ (ap app_of_fields c.about.ensures ∙ c.new-2.ensures.app)) rule_is in
+    ∙ ap₂ with_rule c.new-2.ensures.app rule_is in
     let free : is_simple_and_free (app_of command) ≡ true = ap is_simple_and_free app_is ∙ is_free_decode names in
     let has = c.in-Err.ensures.kinds free in
     IfOk-weaker c.refusal.result _ _ (λ ask is. asked_by names words c.in-Err.error ask kinds (subst (λ (a : App). HasKind (fault_of a words) c.in-Err.error) app_is has) is) c.refusal.ensures

@@ -1,9 +1,9 @@
 use Rattle.std.proofs.Common.{[], ◌∷◌}
 use Rattle.std.specs.Prelude.{codes}
-use Rattle.run_record.specs.Egress.{address_text}
+use Rattle.typed_values.specs.Escape.{address_text}
 use Rattle.statefun_cli.specs.Ends.{reasons_text}
 use Rattle.statefun_cli.proofs.Appended.{four-parts}
 use Rattle.statefun_cli.proofs.line.put_failed.Goals as goal
 
 pub returns-clause-ok : goal.returns-clause-ok
-returns-clause-ok c = four-parts c.args.into.now _ _ _ _ (codes "endpoint failed ") (address_text c.args.address.now) (reasons_text c.args.reasons.now) (10 ∷ []) c.in_ok-append.ensures.ok c.in_ok-put_address.ensures.ok c.in_ok-put_reasons.ensures.ok c.in_ok-push.ensures.ok
+returns-clause-ok c = four-parts c.args.into.now _ _ _ _ (codes "endpoint failed ") (address_text c.args.address.now) (reasons_text c.args.reasons.now) (10 ∷ []) c.in_ok-append.ensures.ok c.in_ok-put_address_text.ensures.ok c.in_ok-put_reasons.ensures.ok c.in_ok-push.ensures.ok

@@ -1,5 +1,4 @@
 use Rattle.std.proofs.Common.{◌∙◌, ap, Some, ℤ, to_z, of_z}
-
 use Rattle.std.specs.Int.{w32}
 use Rattle.std.proofs.lemmas.Int.{to_z-of_z}
 use Rattle.proto_wire.specs.Message.{spelled_four}

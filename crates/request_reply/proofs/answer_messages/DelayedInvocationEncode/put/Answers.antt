@@ -4,6 +4,6 @@ use Rattle.std.proofs.lemmas.Int.{to_z-of_z}
 use Rattle.request_reply.specs.AnswerTables.{delayed_rows}
 use Rattle.request_reply.proofs.answer_messages.DelayedInvocationEncode.put.Goals as goal
 
-pub returns : goal.returns
+pub returns-clause-spelled : goal.returns-clause-spelled
 unfolding delayed_rows
-returns c = grind (arith, append_assoc, append-nil, to_z-of_z)
+returns-clause-spelled c = grind (arith, append_assoc, append-nil, to_z-of_z)

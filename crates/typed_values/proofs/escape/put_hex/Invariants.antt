@@ -1,6 +1,6 @@
 use Rattle.std.proofs.Common.{◌≡◌, ◌++◌, take}
-use Rattle.run_record.specs.Egress.{hex}
-use Rattle.run_record.proofs.egress.put_hex.Given as goal
+use Rattle.typed_values.specs.Escape.{hex}
+use Rattle.typed_values.proofs.escape.put_hex.Given as goal
 
 -- the bytes so far are added
 abbrev pub invariant-loop-byte : goal.invariant-loop-byte

@@ -20,14 +20,10 @@ use Rattle.run_record.specs.declared.entry.Step.{Step}
 use Rattle.run_record.specs.declared.entry.Step.TheVariants.{Take, Batch}
 use Rattle.run_record.specs.declared.entry.Reply.{Reply}
 use Rattle.run_record.specs.Routing.{splits_in, letters_of}
-use Rattle.run_record.specs.Machine.{State, taken_after, posted_all, take_step, request_of, response_of, served, batch_step, step_after, replayed}
+use Rattle.run_record.specs.Machine.{State, took, next_record, step_with, take_step, request_of, response_of, served, batch_step, step_after, replayed}
 use Rattle.run_record.specs.Backed.{IsBackedReply, IsBackedStep, AreBacked}
 
 -- ---- steps
-
--- the state where a record of a split was taken
-unfoldable pub took : Module → ℕ → IngressRecord → State → State
-took m split found st = record st { taken = taken_after split st.taken; mail = posted_all st.mail (letters_of m split found) }
 
 -- a take is allowed, finds this record, and leaves this state
 pub record IsTaken (m : Module) (lists : Lists) (split : ℕ) (st next : State) : Type 0 where
@@ -123,10 +119,6 @@ replayed-push m lists st entries last = replayed-append m lists st entries (last
     and_then_some None = refl
     and_then_some (Some x) = refl
 
--- at a state that is reached
-pub replayed_on : (m : Module) (lists : Lists) (st next : State) (entries others : List Entry) → replayed m lists st entries ≡ Some next → replayed m lists st (entries ++ others) ≡ replayed m lists next others
-replayed_on m lists st next entries others e = replayed-append m lists st entries others ∙ ap (λ o. option_and_then (λ x. replayed m lists x others) o) e
-
 pub replayed_push_on : (m : Module) (lists : Lists) (st next : State) (entries : List Entry) (last : Entry) → replayed m lists st entries ≡ Some next → replayed m lists st (entries ++ last ∷ []) ≡ step_after m lists next last.step
 replayed_push_on m lists st next entries last e = replayed-push m lists st entries last ∙ ap (λ o. option_and_then (λ x. step_after m lists x last.step) o) e
 
@@ -217,24 +209,8 @@ AreBacked-grown exchanges m old new st last (entry ∷ entries) grown e backed =
 
 -- ---- a step where the next record is known
 
--- the record that a step would take
-abbrev pub next_record : Lists → State → Step → Option IngressRecord
-next_record lists st (Take split) = record_at lists split (st.taken split)
-next_record lists st (Batch reply) = None
-
--- the state after a step, where the split's next record is this one
-unfoldable pub step_with : Module → Option IngressRecord → State → Step → Option State
-step_with m found st (Take split) = if nat_lt split (splits_in m.ingresses) then option_map (λ next. took m split next st) found else None
-step_with m found st (Batch reply) = batch_step m reply st
-
 -- a step over lists is the step with their next record
 pub step_after-with : (m : Module) (lists : Lists) (st : State) (step : Step) → step_after m lists st step ≡ step_with m (next_record lists st step) st step
 unfolding step_with take_step took
 step_after-with m lists st (Take split) = refl
 step_after-with m lists st (Batch reply) = refl
-
--- a list is shorter than 2^63
-abbrev pub HasRoom : Step → Option IngressRecord → State → Type 0
-HasRoom (Take split) (Some found) st = st.taken split < 2 ^ 63
-HasRoom (Take split) None st = Unit {0}
-HasRoom (Batch reply) found st = Unit {0}

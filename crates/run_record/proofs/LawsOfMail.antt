@@ -10,7 +10,8 @@ use Rattle.typed_values.specs.declared.address.Address.{Address}
 use Rattle.typed_values.specs.declared.value.TypedValue.{TypedValue}
 use Rattle.typed_values.specs.declared.letter.Sender.{Sender}
 use Rattle.typed_values.specs.declared.letter.Letter.{Letter}
-use Rattle.typed_values.specs.Sameness.{same_address, same_sender, same_sender-Decides, same_address-Decides}
+use Rattle.typed_values.specs.Sameness.{same_address, same_sender}
+use Rattle.typed_values.proofs.Sameness.{same_sender-Decides, same_address-Decides}
 use Rattle.sf_outside.specs.Splits.{Lists}
 use Rattle.request_reply.specs.declared.request.ToFunction.{ToFunction}
 use Rattle.request_reply.specs.declared.request.BatchInvocation.{BatchInvocation}
@@ -21,9 +22,10 @@ use Rattle.run_record.specs.declared.entry.Step.{Step}
 use Rattle.run_record.specs.declared.entry.Step.TheVariants.{Take, Batch}
 use Rattle.run_record.specs.declared.entry.Reply.{Reply}
 use Rattle.run_record.specs.Routing.{letters_of, endpoint_of}
-use Rattle.run_record.specs.Machine.{State, Mail, posted, posted_all, invocation_of, picked_behind, picked, unpicked, batch_of, shipped, is_within, request_of, letters_from, served, step_after, replayed}
+use Rattle.run_record.specs.Machine.{State, Mail, posted, posted_all, picked_behind, picked, unpicked, batch_of, shipped, is_within, request_of, letters_from, served, step_after, replayed, took, waiting_letter}
+use Rattle.request_reply.specs.Letters.{invocation_of}
 use Rattle.run_record.specs.Deliveries.{taken_by, numbers_taken, counting, arguments_of, letters_judged, letters_put, invocations_of, arguments_picked, delivered_by, put_in, delivered}
-use Rattle.run_record.specs.Laws.{took, take_step-some, batch_step-some, some_from_and_then}
+use Rattle.run_record.proofs.LawsOfSteps.{take_step-some, batch_step-some, some_from_and_then}
 
 -- ---- what is put
 
@@ -62,25 +64,25 @@ one_picked xs argument true k n rest here e = ap (λ ys. argument ∷ ys) e ∙ 
 one_picked xs argument false k n rest here e = rw (zero-add n) (e ∙ ap (λ j. take n (drop j xs)) (omega arith))
 
 -- the picked letters of a sender are the first of its mail, as many as its picks
-picked_behind_is : (sender : Sender) (mail : Sender → List TypedValue) (before picks : List Sender) (letters : List BatchInvocation) → picked_behind before mail picks ≡ Some letters → arguments_picked sender picks letters ≡ take (count_by (same_sender sender) picks) (drop (count_by (same_sender sender) before) (mail sender))
-picked_behind_is sender mail before [] letters h = refl
-picked_behind_is sender mail before (pick ∷ picks) letters h =
-    let got = some_from_and_then (λ argument. option_and_then (λ others. Some (invocation_of pick argument ∷ others)) (picked_behind (before ++ pick ∷ []) mail picks)) (slice_get (mail pick) (count_by (same_sender pick) before)) letters h in
-    let gave = some_from_and_then (λ others. Some (invocation_of pick got.0 ∷ others)) (picked_behind (before ++ pick ∷ []) mail picks) letters got.2 in
-    let e : letters ≡ invocation_of pick got.0 ∷ gave.0 = same_Some letters (invocation_of pick got.0 ∷ gave.0) (sym gave.2) in
+picked_behind_is : (target : Address) (sender : Sender) (mail : Sender → List TypedValue) (before picks : List Sender) (letters : List BatchInvocation) → picked_behind target before mail picks ≡ Some letters → arguments_picked sender picks letters ≡ take (count_by (same_sender sender) picks) (drop (count_by (same_sender sender) before) (mail sender))
+picked_behind_is target sender mail before [] letters h = refl
+picked_behind_is target sender mail before (pick ∷ picks) letters h =
+    let got = some_from_and_then (λ argument. option_and_then (λ others. Some (invocation_of (waiting_letter pick target argument) ∷ others)) (picked_behind target (before ++ pick ∷ []) mail picks)) (slice_get (mail pick) (count_by (same_sender pick) before)) letters h in
+    let gave = some_from_and_then (λ others. Some (invocation_of (waiting_letter pick target got.0) ∷ others)) (picked_behind target (before ++ pick ∷ []) mail picks) letters got.2 in
+    let e : letters ≡ invocation_of (waiting_letter pick target got.0) ∷ gave.0 = same_Some letters (invocation_of (waiting_letter pick target got.0) ∷ gave.0) (sym gave.2) in
     let counted : count_by (same_sender sender) (before ++ pick ∷ []) ≡ count_by (same_sender sender) before + cond (same_sender sender pick) 1 0 = sum_by-append (λ x. cond (same_sender sender x) 1 0) before (pick ∷ []) ∙ ap (λ n. count_by (same_sender sender) before + n) (zero-add (cond (same_sender sender pick) 1 0)) in
-    let rest = picked_behind_is sender mail (before ++ pick ∷ []) picks gave.0 gave.1 in
+    let rest = picked_behind_is target sender mail (before ++ pick ∷ []) picks gave.0 gave.1 in
     let from : same_sender sender pick ≡ true → slice_get (mail sender) (count_by (same_sender sender) before) ≡ Some got.0 = λ t. subst (λ s. slice_get (mail s) (count_by (same_sender s) before) ≡ Some got.0) (sym ((same_sender-Decides sender pick).0 t)) got.1 in
     ap (arguments_picked sender (pick ∷ picks)) e
     ∙ one_picked (mail sender) got.0 (same_sender sender pick) (count_by (same_sender sender) before) (count_by (same_sender sender) picks) (arguments_picked sender picks gave.0) from (rest ∙ ap (λ n. take (count_by (same_sender sender) picks) (drop n (mail sender))) counted)
     ∙ ap (λ n. take n (drop (count_by (same_sender sender) before) (mail sender))) (sym (sum_by-cons (λ x. cond (same_sender sender x) 1 0) pick picks))
 
 -- a request has the letters that its picks stand for
-pub request_letters : (m : Module) (st : State) (address : Address) (moment : ℕ) (picks : List Sender) (request : ToFunction) → request_of m st address moment picks ≡ Some request → picked (λ sender. st.mail sender address) picks ≡ Some (invocations_of (Some request))
+pub request_letters : (m : Module) (st : State) (address : Address) (moment : ℕ) (picks : List Sender) (request : ToFunction) → request_of m st address moment picks ≡ Some request → picked address (λ sender. st.mail sender address) picks ≡ Some (invocations_of (Some request))
 unfolding request_of
 request_letters m st address moment picks request h =
-    let got = some_from_and_then (λ (endpoint : Endpoint). option_and_then (λ (letters : List BatchInvocation). within endpoint letters) (picked (λ sender. st.mail sender address) picks)) (endpoint_of m address.kind) request h in
-    let gave = some_from_and_then (within got.0) (picked (λ sender. st.mail sender address) picks) request got.2 in
+    let got = some_from_and_then (λ (endpoint : Endpoint). option_and_then (λ (letters : List BatchInvocation). within endpoint letters) (picked address (λ sender. st.mail sender address) picks)) (endpoint_of m address.kind) request h in
+    let gave = some_from_and_then (within got.0) (picked address (λ sender. st.mail sender address) picks) request got.2 in
     gave.1 ∙ ap Some (by_test (is_within got.0 picks (batch_of address (map (shipped moment) (st.cells address)) gave.0)) gave.0 gave.2)
   where
     within : Endpoint → List BatchInvocation → Option ToFunction
@@ -100,7 +102,7 @@ served_front m st next reply request sender target asked =
     by_test false e = refl
     by_test true e =
         let here : reply.address ≡ target = (same_address-Decides reply.address target).0 e in
-        let front = picked_behind_is sender (λ other. st.mail other reply.address) [] reply.picks (invocations_of (Some request)) (request_letters m st reply.address reply.moment reply.picks request asked) in
+        let front = picked_behind_is reply.address sender (λ other. st.mail other reply.address) [] reply.picks (invocations_of (Some request)) (request_letters m st reply.address reply.moment reply.picks request asked) in
         sym (ap (λ xs. xs ++ drop (count_by (same_sender sender) reply.picks) (st.mail sender target)) (front ∙ ap (λ address. take (count_by (same_sender sender) reply.picks) (st.mail sender address)) here)
         ∙ take-append-drop (count_by (same_sender sender) reply.picks) (st.mail sender target))
 

@@ -1,6 +1,6 @@
 use Rattle.std.proofs.Common.{◌≡◌, ◌++◌, take}
-use Rattle.run_record.specs.Egress.{escaped}
-use Rattle.run_record.proofs.egress.put_escaped.Given as goal
+use Rattle.typed_values.specs.Escape.{escaped}
+use Rattle.typed_values.proofs.escape.put_escaped.Given as goal
 
 -- the bytes so far are added
 abbrev pub invariant-loop-byte : goal.invariant-loop-byte

@@ -16,18 +16,10 @@ use Rattle.run_record.specs.declared.module.Module.{Module}
 use Rattle.run_record.specs.declared.entry.Entry.{Entry}
 use Rattle.run_record.specs.declared.entry.Step.{Step}
 use Rattle.run_record.specs.declared.entry.Step.TheVariants.{Take, Batch}
-use Rattle.run_record.specs.Machine.{State, first_state, emitted, egress_name, argument_of, served, step_after, replayed}
+use Rattle.run_record.specs.Machine.{State, first_state, emitted, egress_name, argument_of, served, step_after, replayed, took}
 use Rattle.run_record.specs.Backed.{calls_of, calls_of_step}
-use Rattle.run_record.specs.Egress.{egress_record, records_judged, records_of_step, egress_of}
-use Rattle.run_record.specs.Laws.{took, take_step-some, batch_step-some, some_from_and_then}
-
--- what a record of the address to the egress brings it
-abbrev pub is_between : Address → TypeName → EgressRecord → Bool
-is_between address egress r = same_address r.sender address && same_name r.egress egress
-
--- the arguments of an address' records to an egress, in order
-unfoldable pub arguments_at : Address → TypeName → List EgressRecord → List TypedValue
-arguments_at address egress records = map (λ (r : EgressRecord). r.argument) (filter (is_between address egress) records)
+use Rattle.run_record.specs.Egress.{egress_record, records_judged, records_of_step, egress_of, is_between, arguments_at}
+use Rattle.run_record.proofs.LawsOfSteps.{take_step-some, batch_step-some, some_from_and_then}
 
 pub arguments_at-append : (address : Address) (egress : TypeName) (records others : List EgressRecord) → arguments_at address egress (records ++ others) ≡ arguments_at address egress records ++ arguments_at address egress others
 unfolding arguments_at
@@ -86,11 +78,6 @@ egress_of-replayed m lists st last (entry ∷ entries) h address egress =
 -- from the first state: the egress of the state is that of the record
 pub egress_of-first : (m : Module) (lists : Lists) (last : State) (entries : List Entry) → replayed m lists first_state entries ≡ Some last → (address : Address) (egress : TypeName) → last.egress address egress ≡ arguments_at address egress (egress_of m entries)
 egress_of-first m lists last entries h address egress = egress_of-replayed m lists first_state last entries h address egress
-
--- records joined
-pub egress_of-append : (m : Module) (entries others : List Entry) → egress_of m (entries ++ others) ≡ egress_of m entries ++ egress_of m others
-unfolding egress_of
-egress_of-append m entries others = flat_map-append (λ (entry : Entry). records_of_step m entry.step) entries others
 
 pub calls_of-append : (entries others : List Entry) → calls_of (entries ++ others) ≡ calls_of entries ++ calls_of others
 calls_of-append [] others = refl
