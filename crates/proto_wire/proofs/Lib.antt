@@ -10,3 +10,4 @@ pub mod FirstFault
 pub mod Spelled
 pub mod Records
 pub mod Faults
+pub mod Tables

@@ -4,5 +4,6 @@ pub mod Pattern
 pub mod Escape
 pub mod Tables
 pub mod Stored
+pub mod Fields
 pub mod Spelling
 pub mod Wrappers

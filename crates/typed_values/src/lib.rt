@@ -4,6 +4,7 @@
 mod address;
 mod cell;
 mod escape;
+mod field_laws;
 mod letter;
 mod messages;
 mod name;
@@ -20,6 +21,10 @@ pub use address::Address;
 pub use cell::{CellSpec, Expiry};
 pub use escape::{
     put_address_text, put_escaped, put_hex, put_name_parts, put_name_text, put_value_text,
+};
+pub use field_laws::{
+    fields_of_a_delay, fields_of_a_letter, fields_of_a_value, fields_of_an_address,
+    fields_of_an_egress, member_of_a_sender,
 };
 pub use letter::{Letter, Sender};
 pub use name::TypeName;
