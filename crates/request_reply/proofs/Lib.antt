@@ -1,5 +1,6 @@
 pub mod Puts
 pub mod RoundTrip
+pub mod Members
 pub mod Counts
 pub mod Pieces
 pub mod Agreeing

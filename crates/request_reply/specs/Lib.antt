@@ -1,6 +1,7 @@
 pub mod RequestTables
 pub mod AnswerTables
 pub mod Oneofs
+pub mod Members
 pub mod Spelling
 pub mod Valid
 pub mod Feeding

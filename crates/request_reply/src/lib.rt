@@ -5,6 +5,7 @@ mod answer;
 mod answer_messages;
 mod batch;
 mod feeder;
+mod field_laws;
 mod flaw;
 mod judging;
 mod request;
@@ -17,6 +18,7 @@ pub use answer::{
 };
 pub use batch::{Batch, Stop};
 pub use feeder::{Feeder, decode_pieces_from, decode_pieces_to};
+pub use field_laws::members_of_an_answer;
 pub use flaw::{Flaw, FlawKind, Reason};
 pub use judging::{ANSWER_LIMIT, Judged, judge};
 pub use request::{BatchInvocation, InvocationBatchRequest, PersistedValue, ToFunction};
