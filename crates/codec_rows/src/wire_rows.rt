@@ -1,8 +1,11 @@
 //! Rows on the records of the wire format.
+ghost use Rattle.std.specs.Prelude.{IfOk};
+ghost use Rattle.proto_wire.specs.Record.{IsField};
+
 use crate::told::{fault_text, owned};
 use proto_wire::{
-    Bytes, WireFault, WireRecord, eight_size, four_size, next_record, put_bytes, put_varint,
-    varint_in, varint_size, with_eight, with_four,
+    Bytes, WireFault, WireRecord, next_record, put_bytes, put_varint, varint_in, varint_size,
+    with_eight, with_four,
 };
 use row_text::{Failure, bytes_of};
 use std::alloc::Global;
@@ -101,22 +104,18 @@ pub(crate) fn field_with_bytes(alloc: Global, words: &str) -> Result<String, Fai
     let payload = bytes_of(alloc, rest)?;
     let field = field_of(field)?;
     let mut bytes = Bytes::new(alloc);
-    put_field(&mut bytes, field, payload.as_slice())?;
+    put_bytes(&mut bytes, field, payload.as_slice())?;
     Ok(hex::encode(alloc, bytes.as_slice())?)
 }
 
-fn field_of(word: &str) -> Result<u32, Failure> {
+/// The number of a field, from 1 to 536,870,911.
+fn field_of(word: &str) -> Result<u32, Failure>
+    ensures { IfOk result (λ field. IsField field) }
+{
     match word.parse::<u32>() {
-        Ok(field) => Ok(field),
-        Err(_) => Err(Failure::Row),
+        Ok(field) if 1 <= field && field <= 536_870_911 => Ok(field),
+        _ => Err(Failure::Row),
     }
-}
-
-fn put_field(into: &mut Bytes, field: u32, payload: &[u8]) -> Result<(), Failure> {
-    if !(1..=536_870_911).contains(&field) {
-        return Err(Failure::Row);
-    }
-    Ok(put_bytes(into, field, payload)?)
 }
 
 /// A number in four bytes in a field, and the size of that: `FIELD NUMBER`.
@@ -124,11 +123,7 @@ pub(crate) fn four(alloc: Global, words: &str) -> Result<String, Failure> {
     let (field, number) = words.split_once(' ').ok_or(Failure::Row)?;
     let field = field_of(field)?;
     match number.parse::<i32>() {
-        Ok(number) => fixed_text(
-            alloc,
-            with_four(Bytes::new(alloc), field, number)?,
-            four_size(field, number),
-        ),
+        Ok(number) => fixed_text(alloc, with_four(Bytes::new(alloc), field, number)?),
         Err(_) => Err(Failure::Row),
     }
 }
@@ -138,16 +133,13 @@ pub(crate) fn eight(alloc: Global, words: &str) -> Result<String, Failure> {
     let (field, number) = words.split_once(' ').ok_or(Failure::Row)?;
     let field = field_of(field)?;
     match number.parse::<i64>() {
-        Ok(number) => fixed_text(
-            alloc,
-            with_eight(Bytes::new(alloc), field, number)?,
-            eight_size(field, number),
-        ),
+        Ok(number) => fixed_text(alloc, with_eight(Bytes::new(alloc), field, number)?),
         Err(_) => Err(Failure::Row),
     }
 }
 
-fn fixed_text(alloc: Global, bytes: Bytes, size: u64) -> Result<String, Failure> {
+fn fixed_text(alloc: Global, bytes: Bytes) -> Result<String, Failure> {
+    let size = bytes.len();
     let digits = hex::encode(alloc, bytes.as_slice())?;
     Ok(format!(in alloc; "'{digits}' size {size}")?)
 }
