@@ -52,7 +52,8 @@ pub record IsTagOf (field wire : ℕ) (spelling : List ℕ) : Type 0 where
 pub data IsPayload (item : Item) (spelling : List ℕ) : Type 0 where
   a_varint : item.wire ≡ 0 → IsVarint spelling item.number → item.payload ≡ spelling → IsPayload item spelling
   eight_bytes : item.wire ≡ 1 → length spelling ≡ 8 → item.number ≡ from_le_bytes w64 spelling → item.payload ≡ spelling → IsPayload item spelling
-  delimited : item.wire ≡ 2 → (len : List ℕ) → IsVarint len item.number → length item.payload ≡ item.number → spelling ≡ len ++ item.payload → IsPayload item spelling
+  delimited : item.wire ≡ 2 → (len : List ℕ) → IsVarint len item.number → length item.payload ≡ item.number → spelling ≡ len ++ item.payload
+    → IsPayload item spelling
   four_bytes : item.wire ≡ 5 → length spelling ≡ 4 → item.number ≡ from_le_bytes w32 spelling → item.payload ≡ spelling → IsPayload item spelling
 
 pub record IsRecord (spelling : List ℕ) (item : Item) : Type 0 where
@@ -109,7 +110,8 @@ pub record IsSingular {M N : Type 0} (rows : List (Row M)) (inner : List (Row N)
   pub kept : (old new : M) (item : Item) → accepted rows old item ≡ Ok new → belongs field wire item ≡ false → get new ≡ get old
 
 -- what a member of a oneof is, by one record: each of its own goes on from it, each of another member drops it, and no other changes it
-pub record IsMember {M N : Type 0} (rows : List (Row M)) (inner : List (Row N)) (blank : N) (field wire : ℕ) (other : Item → Bool) (get : M → Option N) : Type 0 where
+pub record IsMember {M N : Type 0} (rows : List (Row M)) (inner : List (Row N)) (blank : N)
+    (field wire : ℕ) (other : Item → Bool) (get : M → Option N) : Type 0 where
   pub taken : (old new : M) (item : Item) → accepted rows old item ≡ Ok new → belongs field wire item ≡ true → entered blank inner (get old) item ≡ Ok (get new)
   pub dropped : (old new : M) (item : Item) → accepted rows old item ≡ Ok new → other item ≡ true → get new ≡ None
   pub kept : (old new : M) (item : Item) → accepted rows old item ≡ Ok new → belongs field wire item ≡ false → other item ≡ false → get new ≡ get old

@@ -1,4 +1,4 @@
-//! Laws of the wire format: what its definitions come to over whole bytes. Each function does nothing, and its contract is the law.
+//! Laws of the wire format (Protocol Buffers encoding guide): what its definitions come to over whole bytes. Each function does nothing, and its contract is the law.
 ghost use Rattle.proto_wire.specs.Laws.{
     FirstFaultCounts, JoinedBytesAreReadOn, LastScalarCounts, MemberIsJoined, PayloadFaultIsFirst,
     RecordFaultIsFirst, RecordsAreRead, RecordsAreUnique, SingularIsJoined, TagFaultIsFirst,
@@ -7,8 +7,8 @@ ghost use Rattle.proto_wire.specs.Laws.{
 
 use crate::message::Decode;
 
-/// A varint is read exactly where the bytes begin with one: one to ten bytes of which all but the last have the high bit. Its number is the sum of their low seven
-/// bits, lowest first, modulo 2^64.
+/// A varint is read exactly where the bytes begin with one: one to ten bytes of which all but the last have the high bit. Its
+/// number is the sum of their low seven bits, lowest first, modulo 2^64 ("Base 128 Varints").
 pub fn varints_are_read()
     ensures { VarintsAreRead }
 {}
@@ -53,8 +53,8 @@ pub fn the_first_fault_counts<M: Decode>()
     ensures { FirstFaultCounts M.rows }
 {}
 
-/// A tag has a fault exactly where something is wrong with it, placed at its first byte, and of several kinds the first: Truncated, LongVarint, TagTooLarge, FieldZero,
-/// WireType.
+/// A tag has a fault exactly where something is wrong with it, placed at its first byte, and of several kinds the first:
+/// Truncated, LongVarint, TagTooLarge, FieldZero, WireType.
 pub fn the_first_fault_of_a_tag_counts()
     ensures { TagFaultIsFirst }
 {}

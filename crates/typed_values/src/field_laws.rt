@@ -1,6 +1,7 @@
-//! What the fields of each message are, by one record. Each function does nothing, and its contract is the law: a text, a number, a flag or bytes is what a record
-//! of it says, a message goes on from the one that stands, and no record of another field changes them. With the laws of the wire format this says what they are of
-//! whole bytes ("Last One Wins" and "Oneofs" of the Protocol Buffers encoding guide).
+//! What the fields of each message are, by one record. Each function does nothing, and its contract is the law: a text, a number,
+//! a flag or bytes is what a record of it says, a message goes on from the one that stands, and no record of another field changes
+//! them. With the laws of the wire format this says what they are of whole bytes ("Last One Wins" and "Oneofs" of the Protocol
+//! Buffers encoding guide).
 ghost use Rattle.typed_values.specs.Fields.{
     AddressFields, DelayFields, EgressFields, LetterFields, SenderMember, ValueFields,
 };
