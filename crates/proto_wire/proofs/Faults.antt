@@ -1,5 +1,5 @@
 -- The first fault of a tag and of a payload.
-use Rattle.std.proofs.Common.{◌≡◌, ℕ, zero, suc, ◌+◌, ◌-◌, ◌*◌, ◌/◌, ◌%◌, ◌^◌, ◌<◌, ◌≤◌, ◌↔◌, ◌⊎◌, inl, inr, Bool, true, false, cond, ltb, eqb, List, [], ◌∷◌, ◌++◌, length, take, drop, Result, Ok, Err, refl, sym, ap, subst, ◌∙◌, arith, ◌||◌}
+use Rattle.std.proofs.Common.{◌≡◌, ℕ, zero, suc, ◌+◌, ◌-◌, ◌*◌, ◌/◌, ◌%◌, ◌^◌, ◌<◌, ◌≤◌, ◌↔◌, ◌⊎◌, inl, inr, Bool, true, false, cond, ltb, eqb, List, [], ◌∷◌, length, take, drop, Result, Ok, Err, refl, sym, ap, subst, ◌∙◌, arith}
 use Rattle.std.specs.Prelude.{All}
 use Rattle.std.proofs.lemmas.List.Elements.{All-nil, All-cons, All-head, All-tail}
 use Rattle.std.proofs.lemmas.Bool.{ltb-true, eqb-true}
@@ -11,7 +11,7 @@ use Rattle.proto_wire.specs.Varint.{ItemFault, ◌>>=◌, fault, groups, varint_
 use Rattle.proto_wire.specs.Record.{Item, item, is_wire, tag_in, number_in, fixed_in, delimited_in, payload_in, record_in}
 use Rattle.proto_wire.specs.Encoding.{AreBytes, Begins, BeginsWith, EndsInside, IsOverlong, TagHas, EndsInPayload, in_varint, in_eight_bytes, in_length, behind_length, in_four_bytes, PayloadHas, rank, IsFirstFault, RecordHas, in_tag, in_payload}
 use Rattle.proto_wire.proofs.Again.{below, not_below}
-use Rattle.proto_wire.proofs.Fronts.{same-ok, TagRead, tag-read}
+use Rattle.proto_wire.proofs.Fronts.{same-ok, tag-read}
 use Rattle.proto_wire.proofs.Spelled.{varint-spelled, varint-begins}
 use Rattle.proto_wire.proofs.Records.{WireOf, is_zero, is_one, is_two, is_five, wire-of, payload-zero, payload-one, payload-two, payload-five}
 
@@ -93,6 +93,7 @@ groups-fail at (suc most) (b ∷ bytes) e h = step (ltb b 128) refl h (λ f k. g
         let P : ItemFault → Type 0 = λ g. GroupsFail at (suc most) (b ∷ bytes) g in
         let same : f ≡ e = cc in
         subst P same (fail-more at most b bytes f large (k f refl))
+
     step : (t : Bool) → ltb b 128 ≡ t → cond t (Ok (b, bytes)) (groups at most bytes >>= λ high. Ok ((b - 128 + 128 * high.0) % 2 ^ 64, high.1)) ≡ err {A = ℕ × List ℕ} e
         → ((f : ItemFault) → groups at most bytes ≡ Err f → GroupsFail at most bytes f) → GroupsFail at (suc most) (b ∷ bytes) e
     step true t h k = absurd cc
@@ -166,6 +167,7 @@ no-wire wire small h = step (eqb wire 3) refl (eqb wire 4) refl (eqb wire 6) ref
   where
     last : eqb wire 3 ≡ false → eqb wire 4 ≡ false → eqb wire 6 ≡ false → wire ≡ 7
     last a b c = grind (arith, nat_tests)
+
     step : (a : Bool) → eqb wire 3 ≡ a → (b : Bool) → eqb wire 4 ≡ b → (c : Bool) → eqb wire 6 ≡ c → IsNoWire wire
     step true e b f c g = inl (eqb-true wire 3 e)
     step false e true f c g = inr (inl (eqb-true wire 4 f))
@@ -247,6 +249,7 @@ tag-fault bytes all e h = step (varint_in bytes) refl h
   where
     begun : (read : ℕ × List ℕ) → varint_in bytes ≡ Ok read → (Holds : ℕ → Type 0) → Holds read.0 → BeginsWith bytes Holds
     begun read t Holds k = record { number = read.0; rest = read.1; begins = varint-begins bytes read.1 read.0 all t; holds = k }
+
     wired : (w : Bool) (read : ℕ × List ℕ) → varint_in bytes ≡ Ok read → read.0 < 2 ^ 32 → 8 ≤ read.0 → is_wire (read.0 % 8) ≡ w
         → cond w (Ok read) (fault WireType bytes) ≡ Err e → IsFirstFault bytes (TagHas bytes) e
     wired true read t s f w h = absurd cc
@@ -255,6 +258,7 @@ tag-fault bytes all e h = step (varint_in bytes) refl h
         let same : fault_of WireType (length bytes) ≡ e = cc in
         let has : BeginsWith bytes (λ tag. IsNoWire (tag % 8)) = begun read t (λ (n : ℕ). IsNoWire (n % 8)) (no-wire (read.0 % 8) (omega arith) w) in
         subst P same (record { at = refl; has = has; first = wire-first bytes read t s f })
+
     fielded : (z : Bool) (read : ℕ × List ℕ) → varint_in bytes ≡ Ok read → read.0 < 2 ^ 32 → ltb read.0 8 ≡ z
         → cond z (fault FieldZero bytes) (cond (is_wire (read.0 % 8)) (Ok read) (fault WireType bytes)) ≡ Err e → IsFirstFault bytes (TagHas bytes) e
     fielded true read t s z h =
@@ -264,6 +268,7 @@ tag-fault bytes all e h = step (varint_in bytes) refl h
         let has : BeginsWith bytes (λ tag. tag / 8 ≡ 0) = begun read t (λ (n : ℕ). n / 8 ≡ 0) (omega arith) in
         subst P same (record { at = refl; has = has; first = zero-first bytes read t s })
     fielded false read t s z h = wired (is_wire (read.0 % 8)) read t s (at-8 read.0 z) refl h
+
     fitted : (s : Bool) (read : ℕ × List ℕ) → varint_in bytes ≡ Ok read → ltb read.0 (2 ^ 32) ≡ s
         → cond s (cond (ltb read.0 8) (fault FieldZero bytes) (cond (is_wire (read.0 % 8)) (Ok read) (fault WireType bytes))) (fault TagTooLarge bytes) ≡ Err e → IsFirstFault bytes (TagHas bytes) e
     fitted true read t s h = fielded (ltb read.0 8) read t (ltb-true _ _ s) refl h
@@ -272,6 +277,7 @@ tag-fault bytes all e h = step (varint_in bytes) refl h
         let same : fault_of TagTooLarge (length bytes) ≡ e = cc in
         let has : BeginsWith bytes (λ tag. 2 ^ 32 ≤ tag) = begun read t (λ (n : ℕ). 2 ^ 32 ≤ n) (at-32 read.0 s) in
         subst P same (record { at = refl; has = has; first = large-first bytes read t })
+
     failed : (f : ItemFault) → f ≡ e → VarintFails bytes f → IsFirstFault bytes (TagHas bytes) e
     failed f same (ends_inside is h) =
         let P : ItemFault → Type 0 = λ g. IsFirstFault bytes (TagHas bytes) g in
@@ -279,6 +285,7 @@ tag-fault bytes all e h = step (varint_in bytes) refl h
     failed f same (is_overlong is h) =
         let P : ItemFault → Type 0 = λ g. IsFirstFault bytes (TagHas bytes) g in
         subst P (sym is ∙ same) (record { at = refl; has = h; first = overlong-first bytes h })
+
     step : (r : Result (ℕ × List ℕ) ItemFault) → varint_in bytes ≡ r
         → (r >>= λ read. cond (ltb read.0 (2 ^ 32)) (cond (ltb read.0 8) (fault FieldZero bytes) (cond (is_wire (read.0 % 8)) (Ok read) (fault WireType bytes))) (fault TagTooLarge bytes)) ≡ Err e
         → IsFirstFault bytes (TagHas bytes) e
@@ -327,6 +334,7 @@ number-fault tag bytes e w h = step (varint_in bytes) refl h
     failed : (f : ItemFault) → f ≡ e → VarintFails bytes f → IsPayloadFault tag bytes e
     failed f same (ends_inside is k) = truncated-fault tag bytes e (sym is ∙ same) (in_varint w k)
     failed f same (is_overlong is k) = overlong-fault tag bytes e (sym is ∙ same) (inl w) k
+
     step : (r : Result (ℕ × List ℕ) ItemFault) → varint_in bytes ≡ r → (r >>= λ number. Ok (item tag number.0 (length bytes - length number.1) bytes number.1)) ≡ Err e → IsPayloadFault tag bytes e
     step (Ok number) t h = absurd cc
     step (Err f) t h = let same : f ≡ e = cc in failed f same (varint-fails bytes f t)
@@ -347,12 +355,14 @@ delimited-fault tag bytes e all w h = step (varint_in bytes) refl h
     failed : (f : ItemFault) → f ≡ e → VarintFails bytes f → IsPayloadFault tag bytes e
     failed f same (ends_inside is k) = truncated-fault tag bytes e (sym is ∙ same) (in_length w k)
     failed f same (is_overlong is k) = overlong-fault tag bytes e (sym is ∙ same) (inr w) k
+
     inside : (t : Bool) (len : ℕ × List ℕ) → varint_in bytes ≡ Ok len → ltb (length len.1) len.0 ≡ t
         → cond t (fault Truncated bytes) (Ok (item tag len.0 len.0 len.1 (drop len.0 len.1))) ≡ Err e → IsPayloadFault tag bytes e
     inside true len k t h =
         let same : fault_of Truncated (length bytes) ≡ e = cc in
         truncated-fault tag bytes e same (behind_length w len.0 len.1 (varint-begins bytes len.1 len.0 all k) (ltb-true _ _ t))
     inside false len k t h = absurd cc
+
     step : (r : Result (ℕ × List ℕ) ItemFault) → varint_in bytes ≡ r
         → (r >>= λ len. cond (ltb (length len.1) len.0) (fault Truncated bytes) (Ok (item tag len.0 len.0 len.1 (drop len.0 len.1)))) ≡ Err e → IsPayloadFault tag bytes e
     step (Ok len) k h = inside (ltb (length len.1) len.0) len k refl h
@@ -389,10 +399,12 @@ delimited-whole tag bytes read h = step (varint_in bytes) refl h
   where
     enough : (n m : ℕ) → ltb n m ≡ false → m ≤ n
     enough n m h = grind (arith, nat_tests)
+
     inside : (t : Bool) (len : ℕ × List ℕ) → varint_in bytes ≡ Ok len → ltb (length len.1) len.0 ≡ t
         → cond t (fault Truncated bytes) (Ok (item tag len.0 len.0 len.1 (drop len.0 len.1))) ≡ Ok read → HasVarint bytes
     inside true len k t h = absurd cc
     inside false len k t h = record { read = len; is = k; inside = enough (length len.1) len.0 t }
+
     step : (r : Result (ℕ × List ℕ) ItemFault) → varint_in bytes ≡ r
         → (r >>= λ len. cond (ltb (length len.1) len.0) (fault Truncated bytes) (Ok (item tag len.0 len.0 len.1 (drop len.0 len.1)))) ≡ Ok read → HasVarint bytes
     step (Ok len) k h = inside (ltb (length len.1) len.0) len k refl h
@@ -438,7 +450,7 @@ payload-right tag bytes read h (wrong_end (in_four_bytes w short)) = fixed-whole
 pub payload-fault-is-first : (tag : ℕ) (bytes : List ℕ) (e : ItemFault) → AreBytes bytes → is_wire (tag % 8) ≡ true → (payload_in tag bytes ≡ Err e) ↔ IsFirstFault bytes (PayloadHas (tag % 8) bytes) e
 payload-fault-is-first tag bytes e all w =
     first-is bytes (PayloadHas (tag % 8) bytes) (payload_in tag bytes) (payload-fault tag bytes all (wire-of (tag % 8) w))
-      (λ read h kind k. payload-right tag bytes read h (payload-wrong (tag % 8) bytes kind k)) e
+    (λ read h kind k. payload-right tag bytes read h (payload-wrong (tag % 8) bytes kind k)) e
 
 -- ---- records
 
@@ -449,6 +461,7 @@ record-fault-is-first bytes e = (λ h. there (tag_in bytes) refl h, λ h. back h
     there : (r : Result (ℕ × List ℕ) ItemFault) → tag_in bytes ≡ r → (r >>= λ tag. payload_in tag.0 tag.1) ≡ Err e → RecordHas bytes e
     there (Ok tag) t h = in_payload tag.0 tag.1 t h
     there (Err f) t h = let same : f ≡ e = cc in in_tag (t ∙ ap (λ (g : ItemFault). Err g) same)
+
     back : RecordHas bytes e → (tag_in bytes >>= λ tag. payload_in tag.0 tag.1) ≡ Err e
     back (in_tag h) = rw h refl
     back (in_payload tag rest h k) = rw (h, k) refl

@@ -24,6 +24,7 @@ scalar-scan {M} {A} rows field wire reads get is stood held old new (Then item l
     chosen : (b : Bool) (next : M) → accepted rows old item ≡ Ok next → belongs field wire item ≡ b → last_says reads stood (cond b (Some item) held) ≡ Ok (get next)
     chosen true next a b = is.taken old next item a b
     chosen false next a b = let k = is.kept old next item a b in e ∙ ap (λ (x : A). Ok x) (sym k)
+
     step : (r : Result M ItemFault) → accepted rows old item ≡ r → (before left r >>= λ next. merged rows next more) ≡ Ok new
         → ((found : Option Item) (next : M) → last_says reads stood found ≡ Ok (get next) → merged rows next more ≡ Ok new → (last_of field wire found more >>= last_says reads stood) ≡ Ok (get new))
         → (last_of field wire (cond (belongs field wire item) (Some item) held) more >>= last_says reads stood) ≡ Ok (get new)
@@ -116,10 +117,11 @@ member-scan {M} {N} rows inner blank field wire other get is held old new (Then 
     next-held true w next a o b = let none = is.dropped old next item a o in ap (λ (m : Option N). Ok m) (sym none)
     next-held false true next a o b = value-snoc inner blank held item (get old) (get next) v (is.taken old next item a b)
     next-held false false next a o b = let same = is.kept old next item a b o in v ∙ ap (λ (m : Option N). Ok m) (sym same)
+
     step : (r : Result M ItemFault) → accepted rows old item ≡ r → (before left r >>= λ next. merged rows next more) ≡ Ok new
         → (s : Option (List Item)) → items_of more ≡ s → option_map (λ (items : List Item). item ∷ items) s ≡ Some items
         → ((held : List Item) (next : M) (items : List Item) → joined_value blank inner held ≡ Ok (get next) → merged rows next more ≡ Ok new → items_of more ≡ Some items
-            → joined_value blank inner (run (belongs field wire) other held items) ≡ Ok (get new))
+        → joined_value blank inner (run (belongs field wire) other held items) ≡ Ok (get new))
         → joined_value blank inner (run (belongs field wire) other held items) ≡ Ok (get new)
     step (Err fault) a h s f e k = absurd cc
     step (Ok next) a h None f e k = absurd cc

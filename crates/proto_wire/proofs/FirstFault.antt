@@ -1,12 +1,11 @@
 -- Where bytes stop being read.
-use Rattle.std.proofs.Common.{◌≡◌, ℕ, zero, suc, ◌+◌, ◌<◌, ◌≤◌, ◌↔◌, ◌⊎◌, inl, inr, List, [], ◌∷◌, ◌++◌, length, Result, Ok, Err, refl, sym, ap, subst, ◌∙◌, arith, append_assoc}
-use Rattle.std.proofs.lemmas.List.{append-nil}
+use Rattle.std.proofs.Common.{◌≡◌, ℕ, zero, suc, ◌<◌, ◌≤◌, ◌↔◌, ◌⊎◌, inl, inr, List, [], ◌∷◌, ◌++◌, length, Result, Ok, Err, refl, sym, ap, ◌∙◌, arith, append_assoc}
 use Rattle.proto_wire.specs.Varint.{ItemFault, ◌>>=◌}
 use Rattle.proto_wire.specs.Record.{Item, record_in}
 use Rattle.proto_wire.specs.Message.{Row, accepted, before, value_in}
 use Rattle.proto_wire.specs.Encoding.{IsRefused, StopsAt}
 use Rattle.proto_wire.proofs.Scans.{value_in-end, value_in-step, value_in-broken}
-use Rattle.proto_wire.proofs.Fronts.{same-ok, Stands, record_in-stands}
+use Rattle.proto_wire.proofs.Fronts.{record_in-stands}
 use Rattle.proto_wire.proofs.Joined.{first-shorter, one-more, joined-read-on}
 
 stops-fault : {M : Type 0} (rows : List (Row M)) (old : M) (bytes : List ℕ) (fault : ItemFault) → StopsAt rows old bytes fault → value_in rows old bytes ≡ Err fault
@@ -39,12 +38,14 @@ fault-stops {M} (suc fuel) rows old (b ∷ bytes) fault le h = step (record_in (
   where
     here : (record_in (b ∷ bytes) ≡ Err fault) ⊎ IsRefused rows old (b ∷ bytes) fault → StopsAt rows old (b ∷ bytes) fault
     here stops = record { read = []; left = b ∷ bytes; is = refl; value = old; so_far = value_in-end rows old [] refl; more = omega arith; stops = stops }
+
     entering : (read : Item × List ℕ) → record_in (b ∷ bytes) ≡ Ok read → (r : Result M ItemFault) → accepted rows old read.0 ≡ r → (before (length read.1) r >>= λ next. value_in rows next read.1) ≡ Err fault
         → ((next : M) (rest : List ℕ) → length rest ≤ fuel → value_in rows next rest ≡ Err fault → StopsAt rows next rest fault) → StopsAt rows old (b ∷ bytes) fault
     entering read e (Ok next) a h k =
         let shorter : length read.1 < length (b ∷ bytes) = first-shorter (b ∷ bytes) read e in
         stops-behind rows old next (b ∷ bytes) read fault e a (k next read.1 (omega arith) h)
     entering read e (Err inner) a h k = here (inr (record { item = read.0; rest = read.1; read = e; inner = inner; refused = a; is = cc }))
+
     step : (r : Result (Item × List ℕ) ItemFault) → record_in (b ∷ bytes) ≡ r
         → ((next : M) (rest : List ℕ) → length rest ≤ fuel → value_in rows next rest ≡ Err fault → StopsAt rows next rest fault) → StopsAt rows old (b ∷ bytes) fault
     step (Ok read) e k = entering read e (accepted rows old read.0) refl (sym (value_in-step rows old (b ∷ bytes) read (omega arith) e) ∙ h) k

@@ -1,14 +1,13 @@
 -- What is read at the front of bytes is read there before anything else too.
-use Rattle.std.proofs.Common.{◌≡◌, ℕ, zero, suc, ◌+◌, ◌-◌, ◌*◌, ◌/◌, ◌%◌, ◌^◌, ◌<◌, ◌≤◌, Bool, true, false, cond, ltb, eqb, List, [], ◌∷◌, ◌++◌, length, take, drop, Result, Ok, Err, refl, sym, ap, subst, ◌∙◌, arith, append_assoc, length-append, length-take}
+use Rattle.std.proofs.Common.{◌≡◌, ℕ, zero, suc, ◌+◌, ◌-◌, ◌*◌, ◌/◌, ◌%◌, ◌^◌, ◌≤◌, Bool, true, false, cond, ltb, eqb, List, [], ◌∷◌, ◌++◌, length, take, drop, Result, Ok, Err, refl, sym, ap, subst, ◌∙◌, arith, append_assoc, length-append, length-take}
 use Rattle.std.proofs.lemmas.List.{take-append-drop}
-use Rattle.std.proofs.lemmas.Bool.{ltb-true}
 use Rattle.std.proofs.lemmas.Bool.Decides.{nat_tests}
 use Rattle.std.proofs.Math.Seq.{take-append_seam, drop-append_seam}
 use Rattle.std.specs.Int.{Width, w32, w64, byte_len, from_le_bytes}
 use Rattle.proto_wire.specs.declared.fault.WireKind.TheVariants.{Truncated, TagTooLarge, FieldZero, WireType}
 use Rattle.proto_wire.specs.Varint.{ItemFault, ◌>>=◌, fault, groups, varint_in}
 use Rattle.proto_wire.specs.Record.{Item, item, is_wire, tag_in, fixed_in, delimited_in, number_in, payload_in, record_in}
-use Rattle.proto_wire.proofs.Again.{below, not_below, same, not_same}
+use Rattle.proto_wire.proofs.Again.{not_below}
 
 abbrev pub ok : {A : Type 0} → A → Result A ItemFault
 ok x = Ok x
@@ -48,12 +47,13 @@ groups-stand at (suc most) (b ∷ bytes) read h = step (ltb b 128) refl (groups-
         let g = k high refl in
         let P : ℕ × List ℕ → Type 0 = λ r. GroupsStand (suc most) (b ∷ bytes) r in
         let stands : GroupsStand (suc most) (b ∷ bytes) ((b - 128 + 128 * high.0) % 2 ^ 64, high.1) = record {
-              front = b ∷ g.front;
-              is = ap (λ (s : List ℕ). b ∷ s) g.is;
-              again = λ at more. groups-more at most b (g.front ++ more) (high.0, more) e (g.again at more);
-            } in
+          front = b ∷ g.front;
+          is = ap (λ (s : List ℕ). b ∷ s) g.is;
+          again = λ at more. groups-more at most b (g.front ++ more) (high.0, more) e (g.again at more);
+        } in
         subst P (same-ok h) stands
     deeper (Err e) f k h = absurd cc
+
     step : (t : Bool) → ltb b 128 ≡ t → ((high : ℕ × List ℕ) → groups at most bytes ≡ Ok high → GroupsStand most bytes high) → cond t (Ok (b, bytes)) (groups at most bytes >>= λ high. Ok ((b - 128 + 128 * high.0) % 2 ^ 64, high.1)) ≡ Ok read → GroupsStand (suc most) (b ∷ bytes) read
     step true e k h =
         let P : ℕ × List ℕ → Type 0 = λ r. GroupsStand (suc most) (b ∷ bytes) r in
@@ -82,14 +82,17 @@ tag-read bytes tag h = step (varint_in bytes) refl h
         → cond w (Ok read) (fault WireType bytes) ≡ Ok tag → TagRead bytes tag
     last true read e s f w h = let P : ℕ × List ℕ → Type 0 = λ r. TagRead bytes r in subst P (same-ok h) (record { number = e; fits = s; has_field = f; has_wire = w })
     last false read e s f w h = absurd cc
+
     second : (t : Bool) (read : ℕ × List ℕ) → varint_in bytes ≡ Ok read → ltb read.0 (2 ^ 32) ≡ true → ltb read.0 8 ≡ t
         → cond t (fault FieldZero bytes) (cond (is_wire (read.0 % 8)) (Ok read) (fault WireType bytes)) ≡ Ok tag → TagRead bytes tag
     second true read e s f h = absurd cc
     second false read e s f h = last (is_wire (read.0 % 8)) read e s f refl h
+
     first : (t : Bool) (read : ℕ × List ℕ) → varint_in bytes ≡ Ok read → ltb read.0 (2 ^ 32) ≡ t
         → cond t (cond (ltb read.0 8) (fault FieldZero bytes) (cond (is_wire (read.0 % 8)) (Ok read) (fault WireType bytes))) (fault TagTooLarge bytes) ≡ Ok tag → TagRead bytes tag
     first true read e s h = second (ltb read.0 8) read e s refl h
     first false read e s h = absurd cc
+
     step : (r : Result (ℕ × List ℕ) ItemFault) → varint_in bytes ≡ r
         → (r >>= λ read. cond (ltb read.0 (2 ^ 32)) (cond (ltb read.0 8) (fault FieldZero bytes) (cond (is_wire (read.0 % 8)) (Ok read) (fault WireType bytes))) (fault TagTooLarge bytes)) ≡ Ok tag → TagRead bytes tag
     step (Ok read) e h = first (ltb read.0 (2 ^ 32)) read e refl h
@@ -157,10 +160,10 @@ fixed_in-stands w tag bytes read h = step (ltb (length bytes) (byte_len w)) refl
         let enough : byte_len w ≤ length bytes = grind (arith, nat_tests) in
         let len : length (take (byte_len w) bytes) ≡ byte_len w = omega (arith, length-take (byte_len w) bytes) in
         let stands : Stands (fixed_in w tag) bytes (item tag (from_le_bytes w (take (byte_len w) bytes)) (byte_len w) bytes (drop (byte_len w) bytes)) = record {
-              front = take (byte_len w) bytes;
-              is = sym (take-append-drop (byte_len w) bytes);
-              again = λ more. fixed_in-made w tag (take (byte_len w) bytes) more len;
-            } in
+          front = take (byte_len w) bytes;
+          is = sym (take-append-drop (byte_len w) bytes);
+          again = λ more. fixed_in-made w tag (take (byte_len w) bytes) more len;
+        } in
         subst P (same-ok h) stands
 
 pub delimited_in-made : (tag len : ℕ) (front payload more : List ℕ) → length payload ≡ len → varint_in (front ++ (payload ++ more)) ≡ Ok (len, payload ++ more)
@@ -185,11 +188,12 @@ delimited_in-stands tag bytes read h = step (varint_in bytes) refl h
         let payload : List ℕ = take len.0 len.1 in
         let long : length payload ≡ len.0 = omega (arith, length-take len.0 len.1) in
         let stands : Stands (delimited_in tag) bytes (item tag len.0 len.0 len.1 (drop len.0 len.1)) = record {
-              front = v.front ++ payload;
-              is = v.is ∙ ap (λ (s : List ℕ). v.front ++ s) (sym (take-append-drop len.0 len.1)) ∙ sym (append_assoc v.front payload (drop len.0 len.1));
-              again = λ more. ap (delimited_in tag) (append_assoc v.front payload more) ∙ delimited_in-made tag len.0 v.front payload more long (v.again (payload ++ more));
-            } in
+          front = v.front ++ payload;
+          is = v.is ∙ ap (λ (s : List ℕ). v.front ++ s) (sym (take-append-drop len.0 len.1)) ∙ sym (append_assoc v.front payload (drop len.0 len.1));
+          again = λ more. ap (delimited_in tag) (append_assoc v.front payload more) ∙ delimited_in-made tag len.0 v.front payload more long (v.again (payload ++ more));
+        } in
         subst P (same-ok h) stands
+
     step : (r : Result (ℕ × List ℕ) ItemFault) → varint_in bytes ≡ r
         → (r >>= λ len. cond (ltb (length len.1) len.0) (fault Truncated bytes) (Ok (item tag len.0 len.0 len.1 (drop len.0 len.1)))) ≡ Ok read → Stands (delimited_in tag) bytes read
     step (Ok len) e h = inside (ltb (length len.1) len.0) len e refl h
@@ -208,8 +212,8 @@ payload_in-stands tag bytes read h =
     let two = λ (bytes : List ℕ). cond (eqb (tag % 8) 2) (delimited_in tag bytes) (fixed_in w32 tag bytes) in
     let one = λ (bytes : List ℕ). cond (eqb (tag % 8) 1) (fixed_in w64 tag bytes) (two bytes) in
     let s = stands-choice (eqb (tag % 8) 0) (number_in tag) one bytes read (number_in-stands tag bytes read)
-          (stands-choice (eqb (tag % 8) 1) (fixed_in w64 tag) two bytes read (fixed_in-stands w64 tag bytes read)
-          (stands-choice (eqb (tag % 8) 2) (delimited_in tag) (fixed_in w32 tag) bytes read (delimited_in-stands tag bytes read) (fixed_in-stands w32 tag bytes read))) h in
+    (stands-choice (eqb (tag % 8) 1) (fixed_in w64 tag) two bytes read (fixed_in-stands w64 tag bytes read)
+    (stands-choice (eqb (tag % 8) 2) (delimited_in tag) (fixed_in w32 tag) bytes read (delimited_in-stands tag bytes read) (fixed_in-stands w32 tag bytes read))) h in
     record { front = s.front; is = s.is; again = s.again }
 
 pub read-record : (bytes : List ℕ) (tag : ℕ × List ℕ) (read : Item × List ℕ) → tag_in bytes ≡ Ok tag → payload_in tag.0 tag.1 ≡ Ok read → record_in bytes ≡ Ok read

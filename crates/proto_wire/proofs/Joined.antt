@@ -1,13 +1,12 @@
 -- Values of bytes that are joined.
-use Rattle.std.proofs.Common.{◌≡◌, ℕ, zero, suc, ◌+◌, ◌<◌, ◌≤◌, ◌↔◌, ◌⊎◌, inl, inr, Bool, true, false, cond, List, [], ◌∷◌, ◌++◌, length, Option, Some, None, Result, Ok, Err, refl, sym, ap, subst, ◌∙◌, arith, append_assoc, length-append, ◌||◌}
-use Rattle.std.proofs.lemmas.List.{append-nil}
+use Rattle.std.proofs.Common.{◌≡◌, ℕ, zero, suc, ◌<◌, ◌≤◌, Bool, true, false, cond, List, [], ◌∷◌, ◌++◌, length, Result, Ok, Err, refl, sym, ap, ◌∙◌, arith, append_assoc, ◌||◌}
 use Rattle.std.specs.List.{list_any}
 use Rattle.proto_wire.specs.Varint.{ItemFault, ◌>>=◌}
 use Rattle.proto_wire.specs.Record.{Item, record_in}
 use Rattle.proto_wire.specs.Message.{Row, belongs, accepted, before, value_in}
 use Rattle.proto_wire.specs.Encoding.{IsUnknown}
 use Rattle.proto_wire.proofs.Scans.{record_in-fronts, fronts-length, value_in-end, value_in-step, value_in-accepted, value_in-broken}
-use Rattle.proto_wire.proofs.Fronts.{same-ok, Stands, record_in-stands}
+use Rattle.proto_wire.proofs.Fronts.{same-ok, record_in-stands}
 
 -- bytes of one record at least, that are read: the first record and what it makes of the value
 pub record FirstRead {M : Type 0} (rows : List (Row M)) (old new : M) (bytes : List ℕ) : Type 0 where
@@ -24,6 +23,7 @@ first-read {M} rows old new bytes some h = step (record_in bytes) refl
     taken : (item : Item) (rest : List ℕ) → record_in bytes ≡ Ok (item, rest) → (r : Result M ItemFault) → accepted rows old item ≡ r → (before (length rest) r >>= λ next. value_in rows next rest) ≡ Ok new → FirstRead rows old new bytes
     taken item rest e (Ok next) f k = record { item = item; rest = rest; read = e; next = next; enters = f; goes_on = k }
     taken item rest e (Err fault) f k = absurd cc
+
     step : (r : Result (Item × List ℕ) ItemFault) → record_in bytes ≡ r → FirstRead rows old new bytes
     step (Ok read) e = taken read.0 read.1 e (accepted rows old read.0) refl (sym (value_in-step rows old bytes read some e) ∙ h)
     step (Err fault) e = let broken = value_in-broken rows old bytes fault some e in absurd cc

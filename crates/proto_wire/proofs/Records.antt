@@ -1,19 +1,19 @@
 -- Records by their spellings.
-use Rattle.std.proofs.Common.{◌≡◌, ℕ, zero, suc, ◌+◌, ◌-◌, ◌*◌, ◌/◌, ◌%◌, ◌^◌, ◌<◌, ◌≤◌, ◌↔◌, Bool, true, false, cond, ltb, eqb, List, [], ◌∷◌, ◌++◌, length, take, drop, Option, Some, None, Result, Ok, Err, refl, sym, ap, subst, ◌∙◌, arith, append_assoc, length-append, length-take, ◌||◌}
-use Rattle.std.specs.Prelude.{All, option_map}
+use Rattle.std.proofs.Common.{◌≡◌, ℕ, zero, suc, ◌+◌, ◌-◌, ◌*◌, ◌/◌, ◌%◌, ◌^◌, ◌<◌, ◌≤◌, ◌↔◌, Bool, true, false, cond, ltb, eqb, List, [], ◌∷◌, ◌++◌, length, take, drop, Option, Some, None, Result, Ok, Err, refl, sym, ap, subst, ◌∙◌, arith, append_assoc, length-take, ◌||◌}
+use Rattle.std.specs.Prelude.{option_map}
 use Rattle.std.proofs.lemmas.List.{append-nil, take-append-drop}
-use Rattle.std.proofs.lemmas.List.Elements.{All-tail, All-same}
+use Rattle.std.proofs.lemmas.List.Elements.{All-tail}
 use Rattle.std.proofs.lemmas.Bool.{ltb-true, eqb-true}
 use Rattle.std.proofs.lemmas.Bool.Decides.{nat_tests}
 use Rattle.std.specs.Int.{Width, w32, w64, byte_len, from_le_bytes}
 use Rattle.proto_wire.specs.declared.fault.WireKind.TheVariants.{Truncated}
 use Rattle.proto_wire.specs.Varint.{ItemFault, ◌>>=◌, fault, varint_in}
-use Rattle.proto_wire.specs.Record.{Item, item, is_wire, tag_in, number_in, fixed_in, delimited_in, payload_in, record_in, Scan, Whole, Broken, Then, then_scan, records_behind, records_in}
-use Rattle.proto_wire.specs.Message.{Row, accepted, value_in}
-use Rattle.proto_wire.specs.Encoding.{AreBytes, IsVarint, Begins, IsTagOf, IsPayload, a_varint, eight_bytes, delimited, four_bytes, IsRecord, HaveRecords, no_more, next, items_of, IsUnknown}
+use Rattle.proto_wire.specs.Record.{Item, item, is_wire, tag_in, number_in, fixed_in, delimited_in, payload_in, record_in, records_behind, records_in}
+use Rattle.proto_wire.specs.Message.{Row, value_in}
+use Rattle.proto_wire.specs.Encoding.{AreBytes, IsVarint, IsTagOf, IsPayload, a_varint, eight_bytes, delimited, four_bytes, IsRecord, HaveRecords, no_more, next, items_of, IsUnknown}
 use Rattle.proto_wire.proofs.Again.{below, not_below, same, not_same}
 use Rattle.proto_wire.proofs.Scans.{records_in-step}
-use Rattle.proto_wire.proofs.Fronts.{same-ok, TagRead, tag-read, read-tag, ok, made, number_in-made, fixed_in-made, delimited_in-made, RecordRead, record-read, read-record}
+use Rattle.proto_wire.proofs.Fronts.{same-ok, tag-read, read-tag, ok, made, number_in-made, fixed_in-made, delimited_in-made, record-read, read-record}
 use Rattle.proto_wire.proofs.Joined.{first-shorter, joined-read-on, one-more, unknown-passed}
 use Rattle.proto_wire.proofs.Spelled.{varint-spelled, varint-begins}
 
@@ -107,7 +107,7 @@ record-spelled spelling item rest r =
     let tag : ℕ = 8 * item.field + item.wire in
     ap record_in whole
     ∙ read-record (r.tag ++ (r.payload ++ rest)) (tag, r.payload ++ rest) (item, rest) (tag-spelled item.field item.wire r.tag (r.payload ++ rest) r.tag_is)
-        (payload-spelled tag item r.payload rest refl (wire-small item.wire r.tag_is.has_wire) r.payload_is)
+    (payload-spelled tag item r.payload rest refl (wire-small item.wire r.tag_is.has_wire) r.payload_is)
 
 -- the payload that was read of a tag
 record PayloadBegins (tag : ℕ) (bytes : List ℕ) (read : Item × List ℕ) : Type 0 where
@@ -146,7 +146,7 @@ fixed-begins w tag bytes read is h = step (ltb (length bytes) (byte_len w)) refl
         let payload : List ℕ = take (byte_len w) bytes in
         let len : length payload ≡ byte_len w = omega (arith, length-take (byte_len w) bytes) in
         let begins : PayloadBegins tag bytes (item tag (from_le_bytes w payload) (byte_len w) bytes (drop (byte_len w) bytes)) =
-              record { spelling = payload; is = sym (take-append-drop (byte_len w) bytes); field = refl; wire = refl; is_payload = is payload len } in
+        record { spelling = payload; is = sym (take-append-drop (byte_len w) bytes); field = refl; wire = refl; is_payload = is payload len } in
         subst P (same-ok h) begins
 
 delimited-begins : (tag : ℕ) (bytes : List ℕ) (read : Item × List ℕ) → AreBytes bytes → tag % 8 ≡ 2 → delimited_in tag bytes ≡ Ok read → PayloadBegins tag bytes read
@@ -163,13 +163,14 @@ delimited-begins tag bytes read all w h = step (varint_in bytes) refl h
         let payload : List ℕ = take len.0 len.1 in
         let long : length payload ≡ len.0 = omega (arith, length-take len.0 len.1) in
         let begins : PayloadBegins tag bytes (item tag len.0 len.0 len.1 (drop len.0 len.1)) = record {
-              spelling = b.spelling ++ payload;
-              is = b.is ∙ ap (λ (s : List ℕ). b.spelling ++ s) (sym (take-append-drop len.0 len.1)) ∙ sym (append_assoc b.spelling payload (drop len.0 len.1));
-              field = refl;
-              wire = refl;
-              is_payload = delimited w b.spelling b.spells long refl;
-            } in
+          spelling = b.spelling ++ payload;
+          is = b.is ∙ ap (λ (s : List ℕ). b.spelling ++ s) (sym (take-append-drop len.0 len.1)) ∙ sym (append_assoc b.spelling payload (drop len.0 len.1));
+          field = refl;
+          wire = refl;
+          is_payload = delimited w b.spelling b.spells long refl;
+        } in
         subst P (same-ok h) begins
+
     step : (r : Result (ℕ × List ℕ) ItemFault) → varint_in bytes ≡ r
         → (r >>= λ len. cond (ltb (length len.1) len.0) (fault Truncated bytes) (Ok (item tag len.0 len.0 len.1 (drop len.0 len.1)))) ≡ Ok read → PayloadBegins tag bytes read
     step (Ok len) e h = inside (ltb (length len.1) len.0) len e refl h
@@ -259,6 +260,7 @@ read-have (suc fuel) (b ∷ bytes) items le all h = step (record_in (b ∷ bytes
         let same : read.0 ∷ more ≡ items = cc in
         let P : List Item → Type 0 = λ s. HaveRecords (b ∷ bytes) s in
         subst P same (next (b ∷ bytes) r.spelling read.1 read.0 more r.is r.is_record (k read.1 more (omega arith) (bytes-left (b ∷ bytes) r.spelling read.1 r.is all) f))
+
     step : (r : Result (Item × List ℕ) ItemFault) → record_in (b ∷ bytes) ≡ r
         → ((rest : List ℕ) (items : List Item) → length rest ≤ fuel → AreBytes rest → items_of (records_in rest) ≡ Some items → HaveRecords rest items) → HaveRecords (b ∷ bytes) items
     step (Ok read) e k = joined read e (items_of (records_in read.1)) refl (sym (items-step (b ∷ bytes) read (omega arith) e) ∙ h) k

@@ -1,7 +1,7 @@
 -- Varints and records by their spellings.
-use Rattle.std.proofs.Common.{◌≡◌, ℕ, zero, suc, ◌+◌, ◌-◌, ◌*◌, ◌/◌, ◌%◌, ◌^◌, ◌<◌, ◌≤◌, ◌↔◌, Bool, true, false, cond, ltb, eqb, List, [], ◌∷◌, ◌++◌, length, take, drop, Option, Some, None, Result, Ok, Err, refl, sym, ap, subst, ◌∙◌, arith, append_assoc, length-append}
-use Rattle.std.specs.Prelude.{All, option_map}
-use Rattle.std.proofs.lemmas.List.Elements.{All-nil, All-cons, All-head, All-tail, All-rest}
+use Rattle.std.proofs.Common.{◌≡◌, ℕ, zero, suc, ◌+◌, ◌-◌, ◌*◌, ◌%◌, ◌^◌, ◌<◌, ◌≤◌, ◌↔◌, Bool, true, false, cond, ltb, List, [], ◌∷◌, ◌++◌, length, Result, Ok, Err, refl, sym, ap, subst, ◌∙◌, arith, append_assoc, length-append}
+use Rattle.std.specs.Prelude.{All}
+use Rattle.std.proofs.lemmas.List.Elements.{All-nil, All-cons, All-head, All-tail}
 use Rattle.std.proofs.lemmas.Bool.{ltb-true}
 use Rattle.std.proofs.lemmas.Bool.Decides.{nat_tests}
 use Rattle.std.proofs.Math.Nat.{pow-suc, mul_assoc}
@@ -73,22 +73,23 @@ groups-read at (suc most) (b ∷ bytes) read all h = step (ltb b 128) refl h (λ
         let len = g.short in
         let P : ℕ × List ℕ → Type 0 = λ r. GroupsRead (suc most) (b ∷ bytes) r in
         let whole : GroupsRead (suc most) (b ∷ bytes) ((b - 128 + 128 * high.0) % 2 ^ 64, high.1) = record {
-              front = b ∷ g.front;
-              last = g.last;
-              is = ap (λ (s : List ℕ). b ∷ s) g.is;
-              continued = All-cons IsContinued b g.front (large, small) g.continued;
-              ended = g.ended;
-              short = omega arith;
-              number = ap (λ (n : ℕ). (b - 128 + 128 * n) % 2 ^ 64) g.number;
-            } in
+          front = b ∷ g.front;
+          last = g.last;
+          is = ap (λ (s : List ℕ). b ∷ s) g.is;
+          continued = All-cons IsContinued b g.front (large, small) g.continued;
+          ended = g.ended;
+          short = omega arith;
+          number = ap (λ (n : ℕ). (b - 128 + 128 * n) % 2 ^ 64) g.number;
+        } in
         subst P (same-ok h) whole
     deeper (Err f) e k h = absurd cc
+
     step : (t : Bool) → ltb b 128 ≡ t → cond t (Ok (b, bytes)) (groups at most bytes >>= λ high. Ok ((b - 128 + 128 * high.0) % 2 ^ 64, high.1)) ≡ Ok read
         → ((high : ℕ × List ℕ) → groups at most bytes ≡ Ok high → GroupsRead most bytes high) → GroupsRead (suc most) (b ∷ bytes) read
     step true e h k =
         let P : ℕ × List ℕ → Type 0 = λ r. GroupsRead (suc most) (b ∷ bytes) r in
         let whole : GroupsRead (suc most) (b ∷ bytes) (b, bytes) =
-              record { front = []; last = b; is = refl; continued = All-nil IsContinued; ended = ltb-true _ _ e; short = omega arith; number = refl } in
+        record { front = []; last = b; is = refl; continued = All-nil IsContinued; ended = ltb-true _ _ e; short = omega arith; number = refl } in
         subst P (same-ok h) whole
     step false e h k = deeper (groups at most bytes) e k h
 
@@ -109,14 +110,14 @@ varint-begins bytes rest number all h =
     let g = groups-read (length bytes) 10 bytes (number, rest) all h in
     let len = g.short in
     let spells : IsVarint (g.front ++ g.last ∷ []) number = record {
-          front = g.front;
-          last = g.last;
-          is = refl;
-          continued = g.continued;
-          ended = g.ended;
-          short = omega (arith, length-append g.front (g.last ∷ []));
-          sum = g.number ∙ value-sum g.front g.last g.continued g.ended;
-        } in
+      front = g.front;
+      last = g.last;
+      is = refl;
+      continued = g.continued;
+      ended = g.ended;
+      short = omega (arith, length-append g.front (g.last ∷ []));
+      sum = g.number ∙ value-sum g.front g.last g.continued g.ended;
+    } in
     record { spelling = g.front ++ g.last ∷ []; is = g.is ∙ sym (append_assoc g.front (g.last ∷ []) rest); spells = spells }
 
 pub varints-are-read : (bytes rest : List ℕ) (number : ℕ) → AreBytes bytes → (varint_in bytes ≡ Ok (number, rest)) ↔ Begins bytes number rest

@@ -5,7 +5,6 @@ use Rattle.proto_wire.specs.Record.{Item}
 use Rattle.proto_wire.specs.Message.{Row, belongs, accepted, joined, entered}
 use Rattle.proto_wire.specs.Encoding.{IsScalar, IsSingular, IsMember}
 use Rattle.proto_wire.proofs.Fronts.{same-ok}
-use Rattle.proto_wire.proofs.RoundTrip.{EntersBy}
 
 -- what enters by a row leaves this part of the value
 abbrev pub Keeps : {M B : Type 0} → (M → B) → (M → Item → Result M ItemFault) → Type 0
@@ -55,6 +54,7 @@ mind-kept {M} {B} field wire other get (row ∷ rows) mind old new item h b o =
     here (is_own f w) e h = let same : belongs row.field row.wire item ≡ belongs field wire item = rw (f, w) refl in absurd cc
     here (is_other k) e h = let told = k item e in absurd cc
     here (leaves k) e h = k old new item h
+
     step : (t : Bool) → belongs row.field row.wire item ≡ t → cond t (row.enters old item) (accepted rows old item) ≡ Ok new → (accepted rows old item ≡ Ok new → get new ≡ get old) → get new ≡ get old
     step true e h k = here mind.0 e h
     step false e h k = k h

@@ -1,6 +1,6 @@
 -- The wire format over whole byte lists (Protocol Buffers encoding guide), told without a reader.
-use Rattle.std.specs.Prelude.{◌≡◌, ◌≤◌, ◌<◌, ◌⊎◌, ℕ, zero, suc, ◌+◌, ◌*◌, ◌/◌, ◌%◌, ◌^◌, Bool, true, false, List, [], ◌∷◌, ◌++◌, length, take, map}
-use Rattle.std.specs.Prelude.{Option, Some, None, option_map, Result, Ok, Err, All, filter, if◌then◌else◌}
+use Rattle.std.specs.Prelude.{◌≡◌, ◌≤◌, ◌<◌, ◌⊎◌, ℕ, suc, ◌+◌, ◌*◌, ◌/◌, ◌%◌, ◌^◌, Bool, true, false, List, [], ◌∷◌, ◌++◌, length, take, map}
+use Rattle.std.specs.Prelude.{Option, Some, None, option_map, Result, Ok, Err, All, if◌then◌else◌}
 use Rattle.std.specs.List.{concat, list_any}
 use Rattle.std.specs.Int.{w32, w64, from_le_bytes}
 use Rattle.proto_wire.specs.declared.fault.WireKind.{WireKind}
@@ -53,7 +53,7 @@ pub data IsPayload (item : Item) (spelling : List ℕ) : Type 0 where
   a_varint : item.wire ≡ 0 → IsVarint spelling item.number → item.payload ≡ spelling → IsPayload item spelling
   eight_bytes : item.wire ≡ 1 → length spelling ≡ 8 → item.number ≡ from_le_bytes w64 spelling → item.payload ≡ spelling → IsPayload item spelling
   delimited : item.wire ≡ 2 → (len : List ℕ) → IsVarint len item.number → length item.payload ≡ item.number → spelling ≡ len ++ item.payload
-    → IsPayload item spelling
+      → IsPayload item spelling
   four_bytes : item.wire ≡ 5 → length spelling ≡ 4 → item.number ≡ from_le_bytes w32 spelling → item.payload ≡ spelling → IsPayload item spelling
 
 pub record IsRecord (spelling : List ℕ) (item : Item) : Type 0 where
@@ -67,7 +67,7 @@ pub record IsRecord (spelling : List ℕ) (item : Item) : Type 0 where
 pub data HaveRecords : List ℕ → List Item → Type 0 where
   no_more : HaveRecords [] []
   next : (bytes spelling rest : List ℕ) (item : Item) (items : List Item)
-    → bytes ≡ spelling ++ rest → IsRecord spelling item → HaveRecords rest items → HaveRecords bytes (item ∷ items)
+      → bytes ≡ spelling ++ rest → IsRecord spelling item → HaveRecords rest items → HaveRecords bytes (item ∷ items)
 
 -- the records that are read, where they are whole
 abbrev pub items_of : Scan → Option (List Item)

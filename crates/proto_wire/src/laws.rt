@@ -1,8 +1,17 @@
 //! Laws of the wire format (Protocol Buffers encoding guide): what its definitions come to over whole bytes. Each function does nothing, and its contract is the law.
 ghost use Rattle.proto_wire.specs.Laws.{
-    FirstFaultCounts, JoinedBytesAreReadOn, LastScalarCounts, MemberIsJoined, PayloadFaultIsFirst,
-    RecordFaultIsFirst, RecordsAreRead, RecordsAreUnique, SingularIsJoined, TagFaultIsFirst,
-    UnknownChangesNothing, VarintsAreRead,
+  FirstFaultCounts,
+  JoinedBytesAreReadOn,
+  LastScalarCounts,
+  MemberIsJoined,
+  PayloadFaultIsFirst,
+  RecordFaultIsFirst,
+  RecordsAreRead,
+  RecordsAreUnique,
+  SingularIsJoined,
+  TagFaultIsFirst,
+  UnknownChangesNothing,
+  VarintsAreRead,
 };
 
 use crate::message::Decode;
