@@ -1,4 +1,5 @@
-//! Laws of the wire format (Protocol Buffers encoding guide): what its definitions come to over whole bytes. Each function does nothing, and its contract is the law.
+//! Laws of the wire format (Protocol Buffers encoding guide): what its definitions come to over whole bytes. Each function does
+//! nothing, and its contract is the law.
 ghost use Rattle.proto_wire.specs.Laws.{
   FirstFaultCounts,
   JoinedBytesAreReadOn,
