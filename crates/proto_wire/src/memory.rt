@@ -40,3 +40,12 @@ pub trait TryClone {
     fn try_clone(&self, alloc: Global) -> Mem<Self>
         ensures { IfOk result (λ copy. copy ≡ self.now) };
 }
+
+impl<T: TryClone> TryClone for Option<T> {
+    fn try_clone(&self, alloc: Global) -> Mem<Option<T>> {
+        match self {
+            Some(value) => Ok(Some(value.try_clone(alloc)?)),
+            None => Ok(None),
+        }
+    }
+}

@@ -14,7 +14,9 @@ pub record Fed : Type 0 where
 
 -- a piece goes behind what was fed; past the limit it is refused, at the limit
 unfoldable pub fed : Fed → List ℕ → Result Fed WireFault
-fed held piece = if nat_lt held.limit (length held.bytes + length piece) then Err (record { kind = OverLimit; at = held.limit }) else Ok (record { bytes = held.bytes ++ piece; limit = held.limit })
+fed held piece =
+    if nat_lt held.limit (length held.bytes + length piece) then Err (record { kind = OverLimit; at = held.limit })
+    else Ok (record { bytes = held.bytes ++ piece; limit = held.limit })
 
 -- pieces one behind the other
 unfoldable pub pieces_joined : List (List ℕ) → List ℕ

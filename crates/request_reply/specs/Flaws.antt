@@ -1,5 +1,6 @@
 -- The first flaw of an answer, for endpoints, egresses and the cells of the address that answers. An answer is valid where it has none.
-use Rattle.std.specs.Prelude.{◌≡◌, ℕ, ◌+◌, ℤ, pos, Bool, true, false, ◌&&◌, ◌||◌, nat_lt, int_lt, int_le, List, [], ◌∷◌, ◌++◌, length, Option, Some, None, Result, Ok, Err, if◌then◌else◌}
+use Rattle.std.specs.Prelude.{◌≡◌, ℕ, ◌+◌, ℤ, pos, Bool, true, false, ◌&&◌, ◌||◌, nat_lt, int_lt, int_le, List, [], ◌∷◌, ◌++◌, length}
+use Rattle.std.specs.Prelude.{Option, Some, None, Result, Ok, Err, if◌then◌else◌}
 use Rattle.std.specs.List.{list_any}
 use Rattle.std.specs.Str.{bytes_eq}
 use Rattle.proto_wire.specs.declared.fault.WireFault.{WireFault}
@@ -17,7 +18,8 @@ use Rattle.request_reply.specs.declared.answer.PersistedValueSpec.{PersistedValu
 use Rattle.request_reply.specs.declared.answer.ExpirationSpec.{ExpirationSpec}
 use Rattle.request_reply.specs.declared.flaw.Flaw.{Flaw}
 use Rattle.request_reply.specs.declared.flaw.FlawKind.{FlawKind}
-use Rattle.request_reply.specs.declared.flaw.FlawKind.TheVariants.{BadMutation, UnknownName, TypeDiffers, TooLarge, NoEndpoint, NegativeDelay, EmptyToken, UnknownEgress, BadExpiry, TooMany, NoNewName, NotBuilt}
+use Rattle.request_reply.specs.declared.flaw.FlawKind.TheVariants.{BadMutation, UnknownName, TypeDiffers, TooLarge, NoEndpoint, NegativeDelay}
+use Rattle.request_reply.specs.declared.flaw.FlawKind.TheVariants.{EmptyToken, UnknownEgress, BadExpiry, TooMany, NoNewName, NotBuilt}
 use Rattle.request_reply.specs.declared.judging.Judged.{Judged}
 use Rattle.request_reply.specs.declared.judging.Judged.TheVariants as judged
 use Rattle.request_reply.specs.Spelling.{from_value}
@@ -71,7 +73,9 @@ known_flaw (Some typename) mutation = if is_set mutation.mutation_type then set_
 
 -- 0 deletes, 1 sets
 unfoldable pub mutation_flaw : List Registered → PersistedValueMutation → Option FlawKind
-mutation_flaw cells mutation = if int_le (pos 0) mutation.mutation_type && int_le mutation.mutation_type (pos 1) then known_flaw (type_of cells mutation.state_name) mutation else Some BadMutation
+mutation_flaw cells mutation =
+    if int_le (pos 0) mutation.mutation_type && int_le mutation.mutation_type (pos 1) then known_flaw (type_of cells mutation.state_name) mutation
+    else Some BadMutation
 
 unfoldable pub target_flaw : List Pattern → Option Address → Option FlawKind
 target_flaw endpoints None = Some NoEndpoint
@@ -135,7 +139,8 @@ known_after known spec (Some typename) = known
 
 unfoldable pub first_missing : List Registered → ℕ → List PersistedValueSpec → Option Flaw
 first_missing known at [] = None
-first_missing known at (spec ∷ specs) = first_of_two (placed (missing_flaw known spec) at) (first_missing (known_after known spec (type_of known spec.state_name)) (at + 1) specs)
+first_missing known at (spec ∷ specs) =
+    first_of_two (placed (missing_flaw known spec) at) (first_missing (known_after known spec (type_of known spec.state_name)) (at + 1) specs)
 
 abbrev pub is_new : List Registered → PersistedValueSpec → Bool
 is_new cells spec = is_none (type_of cells spec.state_name)
@@ -150,10 +155,12 @@ unfoldable pub result_flaw : Setting → InvocationResponse → Option Flaw
 result_flaw setting response =
     first_of_two (first_in (mutation_flaw setting.cells) 0 response.state_mutations)
     (first_of_two (first_in (message_flaw setting.endpoints) 0 response.outgoing_messages)
-    (first_of_two (first_in (delayed_flaw setting.endpoints) 0 response.delayed_invocations) (first_in (egress_flaw setting.egresses) 0 response.outgoing_egresses)))
+    (first_of_two (first_in (delayed_flaw setting.endpoints) 0 response.delayed_invocations)
+    (first_in (egress_flaw setting.egresses) 0 response.outgoing_egresses)))
 
 unfoldable pub incomplete_flaw : Setting → List PersistedValueSpec → Option Flaw
-incomplete_flaw setting missing = first_of_two (first_missing setting.cells 0 missing) (if list_any (is_new setting.cells) missing then None else Some (flaw_at NoNewName 0))
+incomplete_flaw setting missing =
+    first_of_two (first_missing setting.cells 0 missing) (if list_any (is_new setting.cells) missing then None else Some (flaw_at NoNewName 0))
 
 unfoldable pub read_flaw : Setting → Result FromFunction WireFault → Option Flaw
 read_flaw setting (Err fault) = Some (wire_flaw fault)

@@ -1,5 +1,5 @@
--- Which answers are valid. At this stage an answer is valid where it is short enough, spells a result that neither changes state nor sends messages, and names only
--- egresses that there are.
+-- Which answers are valid. At this stage an answer is valid where it is short enough, spells a result that neither changes state nor sends
+-- messages, and names only egresses that there are.
 use Rattle.std.specs.Prelude.{ℕ, ◌+◌, Bool, true, false, List, [], ◌∷◌, length, Option, None, Some, Result, Ok, Err, nat_lt, ◌&&◌, if◌then◌else◌}
 use Rattle.std.specs.Str.{bytes_eq}
 use Rattle.proto_wire.specs.declared.fault.WireFault.{WireFault}

@@ -3,7 +3,7 @@ use proto_wire::{List, Text};
 use typed_values::{Address, TypedValue};
 
 /// An answer of a function.
-#[derive(PartialEq, Eq, Drop)]
+#[derive(Drop)]
 pub enum FromFunction {
     /// Field 100: the batch was served.
     Result(InvocationResponse),
@@ -12,7 +12,7 @@ pub enum FromFunction {
 }
 
 /// What a served batch does.
-#[derive(PartialEq, Eq, Drop)]
+#[derive(Drop)]
 pub struct InvocationResponse {
     /// Field 1.
     pub state_mutations: List<PersistedValueMutation>,
@@ -25,7 +25,7 @@ pub struct InvocationResponse {
 }
 
 /// A change of one cell: `mutation_type` 0 deletes, 1 sets.
-#[derive(PartialEq, Eq, Drop)]
+#[derive(Drop)]
 pub struct PersistedValueMutation {
     /// Field 1, an enum.
     pub mutation_type: i32,
@@ -36,7 +36,7 @@ pub struct PersistedValueMutation {
 }
 
 /// A message to another function.
-#[derive(PartialEq, Eq, Drop)]
+#[derive(Drop)]
 pub struct OutgoingInvocation {
     /// Field 1.
     pub target: Option<Address>,
@@ -45,7 +45,7 @@ pub struct OutgoingInvocation {
 }
 
 /// A message to be sent later, or the cancellation of one.
-#[derive(PartialEq, Eq, Drop)]
+#[derive(Drop)]
 pub struct DelayedInvocation {
     /// Field 1, in milliseconds.
     pub delay_in_ms: i64,
@@ -60,7 +60,7 @@ pub struct DelayedInvocation {
 }
 
 /// A record for an egress.
-#[derive(PartialEq, Eq, Drop)]
+#[derive(Drop)]
 pub struct EgressMessage {
     /// Field 1.
     pub egress_namespace: Text,
@@ -71,14 +71,14 @@ pub struct EgressMessage {
 }
 
 /// The declared values that the request lacked.
-#[derive(PartialEq, Eq, Drop)]
+#[derive(Drop)]
 pub struct IncompleteInvocationContext {
     /// Field 1.
     pub missing_values: List<PersistedValueSpec>,
 }
 
 /// A declared value.
-#[derive(PartialEq, Eq, Drop)]
+#[derive(Drop)]
 pub struct PersistedValueSpec {
     /// Field 1.
     pub state_name: Text,

@@ -4,7 +4,7 @@ use proto_wire::List;
 use typed_values::{Address, Letter};
 
 /// Letters that go to one address in one request.
-#[derive(PartialEq, Eq, Drop)]
+#[derive(Drop)]
 pub struct Batch {
     pub address: Address,
     /// In order of arrival.
@@ -12,7 +12,7 @@ pub struct Batch {
 }
 
 /// Why a run stops at a batch.
-#[derive(PartialEq, Eq, Drop)]
+#[derive(Drop)]
 pub enum Stop {
     /// As many attempts as the endpoint has failed in a row, for these reasons.
     EndpointFailed {

@@ -43,7 +43,7 @@ pub struct Flaw {
 }
 
 /// Why an attempt at a call failed.
-#[derive(PartialEq, Eq, Drop)]
+#[derive(Drop)]
 pub enum Reason {
     /// The call was lost, with the link's note.
     Lost(u32),

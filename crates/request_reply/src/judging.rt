@@ -13,7 +13,7 @@ use typed_values::TypeName;
 pub const ANSWER_LIMIT: usize = 4_194_304;
 
 /// What an answer is.
-#[derive(PartialEq, Eq, Drop)]
+#[derive(Drop)]
 pub enum Judged {
     /// A valid result.
     Accept(InvocationResponse),

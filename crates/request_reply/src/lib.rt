@@ -4,6 +4,7 @@
 mod answer;
 mod answer_messages;
 mod batch;
+mod copies;
 mod feeder;
 mod field_laws;
 mod flaw;
@@ -21,5 +22,6 @@ pub use feeder::{Feeder, decode_pieces_from, decode_pieces_to};
 pub use field_laws::members_of_an_answer;
 pub use flaw::{Flaw, FlawKind, Reason};
 pub use judging::{ANSWER_LIMIT, Judged, judge};
+pub use proto_wire::DecodeFault;
 pub use request::{BatchInvocation, InvocationBatchRequest, PersistedValue, ToFunction};
 pub use whole::{decode_from, decode_to, encode_from, encode_to, size_from, size_letter, size_to};

@@ -3,14 +3,14 @@ use proto_wire::{List, Text};
 use typed_values::{Address, TypedValue};
 
 /// A request to a function.
-#[derive(PartialEq, Eq, Drop)]
+#[derive(Drop)]
 pub enum ToFunction {
     /// Field 100.
     Invocation(InvocationBatchRequest),
 }
 
 /// A batch of letters for one address, with the address' state.
-#[derive(PartialEq, Eq, Drop)]
+#[derive(Drop)]
 pub struct InvocationBatchRequest {
     /// Field 1.
     pub target: Option<Address>,
@@ -21,7 +21,7 @@ pub struct InvocationBatchRequest {
 }
 
 /// One cell of the state. No value where it has none, or an expired one.
-#[derive(PartialEq, Eq, Drop)]
+#[derive(Drop)]
 pub struct PersistedValue {
     /// Field 1.
     pub state_name: Text,
@@ -30,7 +30,7 @@ pub struct PersistedValue {
 }
 
 /// One letter. A caller stands only for a function's letter.
-#[derive(PartialEq, Eq, Drop)]
+#[derive(Drop)]
 pub struct BatchInvocation {
     /// Field 1.
     pub caller: Option<Address>,

@@ -38,6 +38,7 @@ pub record EgressFields : Type 0 where
   pub namespace : IsScalar egress_rows 2 2 text_of (λ it. it.namespace)
   pub name : IsScalar egress_rows 3 2 text_of (λ it. it.name)
   pub argument : IsSingular egress_rows value_rows empty_value 4 2 (λ it. it.argument)
+
 -- a function as a sender is a member, and a split is the other one
 pub record SenderMember : Type 0 where
   pub function : IsMember sender_rows address_rows empty_address 2 2 (belongs 1 0) (λ it. function_of it.member)

@@ -11,7 +11,8 @@ use Rattle.typed_values.specs.declared.letter.Letter.{Letter}
 use Rattle.typed_values.specs.declared.record.Delay.{Delay}
 use Rattle.typed_values.specs.declared.record.EgressRecord.{EgressRecord}
 use Rattle.typed_values.specs.Tables.{empty_address, address_rows, empty_value, value_rows}
-use Rattle.typed_values.specs.Stored.{empty_sender, sender_rows, empty_letter, letter_rows, letter_read, letter_of, empty_delay, delay_rows, delay_read, delay_of, empty_egress, egress_rows, egress_read, egress_of}
+use Rattle.typed_values.specs.Stored.{empty_sender, sender_rows, empty_letter, letter_rows, letter_read, letter_of}
+use Rattle.typed_values.specs.Stored.{empty_delay, delay_rows, delay_read, delay_of, empty_egress, egress_rows, egress_read, egress_of}
 
 unfoldable pub address_spelling : Address → List ℕ
 address_spelling address = spelling address_rows address

@@ -3,7 +3,12 @@
 //! them. With the laws of the wire format this says what they are of whole bytes ("Last One Wins" and "Oneofs" of the Protocol
 //! Buffers encoding guide).
 ghost use Rattle.typed_values.specs.Fields.{
-    AddressFields, DelayFields, EgressFields, LetterFields, SenderMember, ValueFields,
+  AddressFields,
+  DelayFields,
+  EgressFields,
+  LetterFields,
+  SenderMember,
+  ValueFields,
 };
 
 /// The namespace, the name and the id of an address are scalars.

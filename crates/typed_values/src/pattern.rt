@@ -12,13 +12,9 @@ pub struct TypePattern {
 
 impl TryClone for TypePattern {
     fn try_clone(&self, alloc: Global) -> Mem<TypePattern> {
-        let name = match &self.name {
-            Some(name) => Some(name.try_clone(alloc)?),
-            None => None,
-        };
         Ok(TypePattern {
             namespace: self.namespace.try_clone(alloc)?,
-            name,
+            name: self.name.try_clone(alloc)?,
         })
     }
 }
