@@ -13,26 +13,17 @@ use Rattle.yaml_block.specs.declared.fault.Refusal.{Refusal}
 use Rattle.yaml_block.specs.declared.fault.BlockFault.{BlockFault}
 use Rattle.yaml_block.specs.declared.fault.BlockFault.TheVariants as fault
 use Rattle.yaml_block.specs.declared.node.Node.{Node}
-use Rattle.yaml_block.specs.declared.node.Pair.{Pair}
 use Rattle.yaml_block.specs.Scalars.{is_gap}
 use Rattle.yaml_block.specs.Layout.{Forest, lies_in, below, inside, forest}
-use Rattle.yaml_block.specs.Trees.{refusal, opened, block, items, pairs, ◌orElse◌, at_line, unreadable_value, block_below, value_of}
+use Rattle.yaml_block.specs.Trees.{refusal, opened, block, ◌orElse◌, at_line, unreadable_value, block_below, value_of}
 use Rattle.yaml_block.specs.Documents.{lines, and_line, trees, Refused}
 
 -- ---- bytes
 
-abbrev pub first_and_rest : List ℕ → Option (ℕ × List ℕ)
-first_and_rest [] = None
-first_and_rest (b ∷ bs) = Some (b, bs)
-
 abbrev pub is_colon_at : List ℕ → ℕ → Bool
 is_colon_at text at = (slice_index text at == 58) && is_gap (drop (at + 1) text)
 
--- the bytes before the first line feed
-abbrev pub line_len : List ℕ → ℕ
-line_len [] = 0
-line_len (b ∷ bs) = if b == 10 then 0 else line_len bs + 1
-
+-- a line without the CR that it may end with
 abbrev pub without_return : List ℕ → List ℕ
 without_return [] = []
 without_return (b ∷ []) = if b == 13 then [] else b ∷ []
@@ -71,14 +62,12 @@ rest b (p ∷ ps) = if lies_in b p then rest b ps else p ∷ ps
 unfoldable pub trees_in : Bound → List Piece → Forest
 trees_in b ps = inside b (forest ps)
 
+-- what the pieces in a bound are, as a part of a block at this level after those keys, and the pieces after them
+unfoldable pub read_as : {A : Type 0} → (Forest → A) → ℕ → Block → List (List ℕ) → Bound → List Piece → Result (A × List Piece) Refusal
+read_as content level home keys b ps = unless (refusal level home keys (trees_in b ps)) (content (trees_in b ps), rest b ps)
+
 unfoldable pub read_block : ℕ → ℕ → Bound → List Piece → Result (Node × List Piece) Refusal
-read_block level line b ps = unless (refusal level (opened (trees_in b ps)) [] (trees_in b ps)) (block line (trees_in b ps), rest b ps)
-
-unfoldable pub read_items : ℕ → Block → Bound → List Piece → Result (List Node × List Piece) Refusal
-read_items level home b ps = unless (refusal level home [] (trees_in b ps)) (items (trees_in b ps), rest b ps)
-
-unfoldable pub read_pairs : ℕ → Block → List (List ℕ) → Bound → List Piece → Result (List Pair × List Piece) Refusal
-read_pairs level home keys b ps = unless (refusal level home keys (trees_in b ps)) (pairs (trees_in b ps), rest b ps)
+read_block level line b ps = read_as (block line) level (opened (trees_in b ps)) [] b ps
 
 -- the value of an entry, whose pieces follow
 unfoldable pub read_value : ℕ → Piece → List Piece → Result (Node × List Piece) Refusal

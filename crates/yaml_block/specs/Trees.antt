@@ -69,10 +69,10 @@ unreadable _ = None
 abbrev pub most_levels : ℕ
 most_levels = 16
 
--- where it stands: it has the block's column and kind, and there are not too many blocks in one another
+-- where it stands: it has the block's kind and column, and there are not too many blocks in one another
 abbrev pub misplaced : ℕ → Block → Piece → Option ModuleKind
 misplaced level home p =
-    if nat_eq home.column p.column && is_of_kind home.kind p.head then (if nat_lt most_levels level then Some Depth else None) else Some Indent
+    if is_of_kind home.kind p.head && nat_eq home.column p.column then (if nat_lt most_levels level then Some Depth else None) else Some Indent
 
 abbrev pub misfit : ℕ → Block → Piece → Option ModuleKind
 misfit level home p = unreadable p.head orElse misplaced level home p

@@ -2,7 +2,7 @@
 ghost use Rattle.std.specs.Prelude.{◌≡◌, ◌≤◌, [], option_map};
 ghost use Rattle.yaml_block.specs.Layout as layout;
 ghost use Rattle.yaml_block.specs.Trees as spec;
-ghost use Rattle.yaml_block.specs.Steps.{Answers, next_in, read_block, read_items, read_pairs, read_value, read_nothing, misplaced_kind, HasInline};
+ghost use Rattle.yaml_block.specs.Steps.{Answers, next_in, read_block, read_as, read_value, read_nothing, misplaced_kind, HasInline};
 
 use crate::fault::{BlockFault, Refusal};
 use crate::keys::Keys;
@@ -213,7 +213,7 @@ fn items(
 ) -> Result<(Items<Node>, &[Piece]), BlockFault>
     requires level { level ≤ 17 }
     requires kind { home.kind ≡ BlockKind.Sequence }
-    ensures { Answers (λ x. (x.0, x.1.now)) result (read_items level home bound pieces.now) }
+    ensures { Answers (λ x. (x.0, x.1.now)) result (read_as spec.items level home [] bound pieces.now) }
 {
     let mut items = Items::new(alloc);
     let mut rest = pieces;
@@ -239,7 +239,7 @@ fn pairs(
 ) -> Result<(Items<Pair>, &[Piece]), BlockFault>
     requires level { level ≤ 17 }
     requires kind { home.kind ≡ BlockKind.Mapping }
-    ensures { Answers (λ x. (x.0, x.1.now)) result (read_pairs level home [] bound pieces.now) }
+    ensures { Answers (λ x. (x.0, x.1.now)) result (read_as spec.pairs level home [] bound pieces.now) }
 {
     let mut keys = Keys::new(alloc);
     let mut pairs = Items::new(alloc);

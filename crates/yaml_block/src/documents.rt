@@ -1,9 +1,10 @@
 //! The documents of a text.
-ghost use Rattle.std.specs.Prelude.{◌≡◌, ◌==◌, ◌≤◌, ◌<◌, ◌+◌, ◌^◌, Ok, count_by, length, List, option_map, IfSome, IfOk, IfErr, OnOk, IsUtf8};
+ghost use Rattle.std.specs.Prelude.{◌≡◌, ◌==◌, ◌≤◌, ◌<◌, ◌+◌, ◌^◌, Ok, count_by, length, take, slice_index, false, List, option_map, IfSome, IfOk, IfErr, OnOk, IsUtf8};
+ghost use Rattle.std.specs.List.{list_any};
 ghost use Rattle.yaml_block.specs.Documents as spec;
 ghost use Rattle.yaml_block.specs.Layout.{forest};
 ghost use Rattle.yaml_block.specs.declared.piece.Piece.{Piece};
-ghost use Rattle.yaml_block.specs.Steps.{Answers, document_tree, AreLines, line_len, without_return, closed, trees_on};
+ghost use Rattle.yaml_block.specs.Steps.{Answers, document_tree, AreLines, without_return, closed, trees_on};
 
 use crate::blocks::block;
 use crate::fault::{BlockFault, YamlFault};
@@ -108,7 +109,8 @@ fn next_line(text: &[u8]) -> (&[u8], Option<&[u8]>)
 /// How many bytes stand before the first line feed.
 fn line_len(text: &[u8]) -> usize
     ensures bound { result ≤ length text.now }
-    ensures value { result ≡ line_len text.now }
+    ensures before { list_any (λ b. b == 10) (take result text.now) ≡ false }
+    ensures there { result < length text.now → slice_index text.now result ≡ 10 }
 {
     let mut len = 0;
     while len < text.len() {
@@ -122,8 +124,10 @@ fn line_len(text: &[u8]) -> usize
 
 /// A line without the CR that it may end with.
 fn without_return(line: &[u8]) -> &[u8]
+    requires { IsUtf8 line.now }
     ensures bound { length result.now ≤ length line.now }
     ensures value { result.now ≡ without_return line.now }
+    ensures utf8 { IsUtf8 result.now }
 {
     let Some((last, front)) = line.split_last() else {
         return line;

@@ -2,6 +2,7 @@
 ghost use Rattle.std.specs.Prelude.{◌≡◌, option_map, IfOk};
 ghost use Rattle.yaml_block.specs.Scalars as spec;
 
+use crate::scalars::first_of;
 use proto_wire::{Bytes, Mem};
 use std::alloc::Global;
 
@@ -48,24 +49,25 @@ fn double(alloc: Global, text: &[u8]) -> Mem<Option<(Bytes, &[u8])>>
 {
     let mut content = Bytes::new(alloc);
     let mut rest = text;
-    loop {
-        match rest {
-            [] => return Ok(None),
-            [b'"', after @ ..] => return Ok(Some((content, after))),
-            [b'\\', code, after @ ..] => {
-                let Some(byte) = escaped(*code) else {
-                    return Ok(None);
-                };
-                content.push(byte)?;
-                rest = after;
-            }
-            [b'\\'] => return Ok(None),
-            [byte, after @ ..] => {
-                content.push(*byte)?;
-                rest = after;
-            }
+    while let Some((byte, after)) = first_of(rest) {
+        if byte == b'"' {
+            return Ok(Some((content, after)));
+        }
+        if byte == b'\\' {
+            let Some((code, after)) = first_of(after) else {
+                return Ok(None);
+            };
+            let Some(byte) = escaped(code) else {
+                return Ok(None);
+            };
+            content.push(byte)?;
+            rest = after;
+        } else {
+            content.push(byte)?;
+            rest = after;
         }
     }
+    Ok(None)
 }
 
 /// What a backslash and this character stand for.

@@ -1,14 +1,14 @@
 //! Plain scalars, and what stands around scalars on a line.
-ghost use Rattle.std.specs.Prelude.{◌≡◌, ◌≤◌, ◌+◌, ◌<◌, ◌∷◌, length, take, drop, option_map, IfSome, IfOk, IsUtf8};
+ghost use Rattle.std.specs.Prelude.{◌≡◌, ◌≤◌, ◌+◌, ◌<◌, ◌∷◌, [], length, take, drop, option_map, MatchOption, IfSome, IfOk, IsUtf8};
 ghost use Rattle.yaml_block.specs.Scalars as spec;
-ghost use Rattle.yaml_block.specs.Steps.{first_and_rest, is_colon_at};
+ghost use Rattle.yaml_block.specs.Steps.{is_colon_at};
 
 use proto_wire::{Bytes, Mem, ModuleKind, Text};
 use std::alloc::Global;
 
 /// The first byte of a text and what follows.
 pub(crate) fn first_of(text: &[u8]) -> Option<(u8, &[u8])>
-    ensures { option_map (λ x. (x.0, x.1.now)) result ≡ first_and_rest text.now }
+    ensures { MatchOption result (text.now ≡ []) (λ x. text.now ≡ x.0 ∷ x.1.now) }
 {
     let (first, rest) = text.split_first()?;
     Some((*first, rest))

@@ -1,9 +1,9 @@
-use Rattle.std.proofs.Common.{◌≡◌, ◌≤◌, ◌+◌, ◌-◌, length, drop}
-use Rattle.yaml_block.specs.Steps.{line_len}
+use Rattle.std.proofs.Common.{◌≡◌, ◌≤◌, ◌-◌, ◌==◌, false, length, take}
+use Rattle.std.specs.List.{list_any}
 use Rattle.yaml_block.proofs.documents.line_len.Given as goal
 
 abbrev pub invariant-loop-len : goal.invariant-loop-len
-invariant-loop-len l = record { bound : l.len ≤ length l.text; so_far : l.len + line_len (drop l.len l.text) ≡ line_len l.text }
+invariant-loop-len l = record { bound : l.len ≤ length l.text; before : list_any (λ b. b == 10) (take l.len l.text) ≡ false }
 
 abbrev pub decreases-loop-len : goal.decreases-loop-len
 decreases-loop-len l = length l.text - l.len
