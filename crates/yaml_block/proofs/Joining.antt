@@ -10,10 +10,12 @@ use Rattle.yaml_block.specs.declared.piece.Piece.{Piece}
 use Rattle.yaml_block.specs.declared.piece.Bound.{Bound}
 use Rattle.yaml_block.specs.declared.piece.Line.TheVariants as a_line
 use Rattle.yaml_block.specs.declared.fault.Refusal.{Refusal}
+use Rattle.yaml_block.specs.declared.fault.YamlFault.{YamlFault}
+use Rattle.yaml_block.specs.declared.fault.YamlFault.TheVariants as fault
 use Rattle.yaml_block.specs.declared.node.Node.{Node}
 use Rattle.yaml_block.specs.Layout.{Forest, none, grown, lies_in, inside, forest}
 use Rattle.yaml_block.specs.Trees.{refusal, opened, block}
-use Rattle.yaml_block.specs.Documents.{lines, and_line, trees, and_tree, documents, without_mark, bad_line, read, Refused}
+use Rattle.yaml_block.specs.Documents.{lines, and_line, trees, and_tree, documents, without_mark, bad_line, read, Refused, IsToldBy}
 use Rattle.yaml_block.specs.Steps.{unless, rest, trees_in, read_as, read_block, document_tree, added, closed, after_nodes, trees_on}
 use Rattle.yaml_block.proofs.Reading.{◌andThen◌}
 
@@ -119,3 +121,7 @@ read_bad bs h n = rw (short (length bs) h, not_utf8 bs n) refl
 pub read_good : (bs : List ℕ) → length bs ≤ 1048576 → IsUtf8 bs → read bs ≡ trees 1 (documents 1 (lines (without_mark bs)))
 unfolding read
 read_good bs h u = rw (short (length bs) h, is_utf8-from_IsUtf8 bs u) refl
+
+pub mark_told : (e : YamlFault) (nodes : List Node) (ps : List Piece) (ds : List (List Piece)) → IsToldBy e (closed nodes ps) → IsToldBy e (trees_on nodes ps ([] ∷ ds))
+mark_told fault.OutOfMemory nodes ps ds h = tt
+mark_told (fault.Refused d l k) nodes ps ds h = mark_refusal nodes ps ds _ h

@@ -5,3 +5,7 @@ pub mod Texts
 pub mod Below
 pub mod Reading
 pub mod Joining
+pub mod OneReading
+pub mod Beginnings
+pub mod Moving
+pub mod Places

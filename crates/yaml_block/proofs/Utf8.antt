@@ -4,9 +4,11 @@ use Rattle.std.proofs.lemmas.Bool.Decides.{nat_tests}
 use Rattle.std.proofs.lemmas.List.{take_at, drop_at, append-nil, length-append}
 use Rattle.std.proofs.Math.Seq.{get_or-append_seam}
 use Rattle.std.specs.Str.{IsUtf8, IsAscii}
-use Rattle.std.proofs.lemmas.Str.{IsUtf8-take, IsUtf8-drop, IsUtf8-append, IsUtf8-from_ascii, IsCharBoundary-before_ascii, IsCharBoundary-after_ascii}
+use Rattle.std.proofs.Math.Utf8.{encode}
+use Rattle.std.proofs.lemmas.Str.{IsUtf8-take, IsUtf8-drop, IsUtf8-append, IsUtf8-from_ascii, IsUtf8-past_char, IsCharBoundary-before_ascii, IsCharBoundary-after_ascii}
 use Rattle.yaml_block.specs.Scalars.{is_white, past_white, is_end, is_over, is_gap, is_item, is_quote, plain, in_front, cut_at_colon, single, double, escape, escaped_in_front, quoted}
 use Rattle.yaml_block.specs.Lines.{behind_colon}
+use Rattle.yaml_block.specs.Documents.{without_mark}
 use Rattle.yaml_block.proofs.Scanning.{Found}
 
 -- ---- cutting and joining
@@ -37,12 +39,16 @@ utf8_joined a bs b small u v = IsUtf8-append a (b ∷ bs) u (IsUtf8-append (b �
 
 -- ---- white space, plain scalars and keys
 
-equals : (b n : ℕ) → (b == n) ≡ true → b ≡ n
+pub equals : (b n : ℕ) → (b == n) ≡ true → b ≡ n
 equals b n e = grind (arith, nat_tests)
 
-and_left : (a b : Bool) → (a && b) ≡ true → a ≡ true
+pub and_left : (a b : Bool) → (a && b) ≡ true → a ≡ true
 and_left true b e = refl
 and_left false b e = absurd cc
+
+pub and_right : (a b : Bool) → (a && b) ≡ true → b ≡ true
+and_right true b e = e
+and_right false b e = absurd cc
 
 pub white_small : (b : ℕ) → is_white b ≡ true → b < 128
 white_small b w = grind (arith, nat_tests)
@@ -222,3 +228,23 @@ unfolding Kept
 quoted_utf8 q s x u e =
     let P : Bool → Type 0 = λ v. Some x ≡ cond v (single s) (double s) → IsUtf8 x.0 × IsUtf8 x.1 in
     elim (q == 39) as P [ true ↦ (λ e. single_kept [] s x u (sym e)) | false ↦ (λ e. double_kept [] s x u (sym e)) ] e
+
+-- ---- the byte order mark, which is one character
+
+mark_is : encode 65279 ≡ 239 ∷ 187 ∷ 191 ∷ []
+unfolding encode
+mark_is = refl
+
+pub without_mark_utf8 : (bs : List ℕ) → IsUtf8 bs → IsUtf8 (without_mark bs)
+without_mark_utf8 [] u = u
+without_mark_utf8 (a ∷ []) u = u
+without_mark_utf8 (a ∷ b ∷ []) u = u
+without_mark_utf8 (a ∷ b ∷ c ∷ rest) u =
+    let P : Bool → Type 0 = λ v. (a == 239 && (b == 187 && c == 191)) ≡ v → IsUtf8 (cond v rest (a ∷ b ∷ c ∷ rest)) in
+    elim (a == 239 && (b == 187 && c == 191)) as P [
+      | true ↦ (λ e.
+          let two = and_right (a == 239) (b == 187 && c == 191) e in
+          let is : a ∷ b ∷ c ∷ rest ≡ 239 ∷ 187 ∷ 191 ∷ rest = rw (equals a 239 (and_left _ _ e), equals b 187 (and_left _ _ two), equals c 191 (and_right (b == 187) (c == 191) two)) refl in
+          IsUtf8-past_char (a ∷ b ∷ c ∷ rest) rest 65279 u (is ∙ sym (ap (λ (m : List ℕ). m ++ rest) mark_is)))
+      | false ↦ (λ e. u)
+    ] refl

@@ -9,6 +9,7 @@ mod blocks;
 mod documents;
 mod fault;
 mod keys;
+pub mod laws;
 mod lines;
 mod node;
 mod piece;
