@@ -1,7 +1,5 @@
 -- What stands behind a line changes no refusal up to it.
 use Rattle.std.proofs.Common.{◌≡◌, ℕ, suc, ◌+◌, ◌≤◌, ◌<◌, Bool, true, false, ◌&&◌, ◌==◌, cond, List, [], ◌∷◌, ◌++◌, length, Option, Some, None, Result, Ok, Err, ◌⊎◌, inl, inr, refl, sym, ap, subst, ◌∙◌, append_assoc, arith}
-use Rattle.std.proofs.lemmas.Bool.Decides.{nat_tests}
-use Rattle.std.proofs.lemmas.List.{append-nil, length-append}
 use Rattle.std.specs.Prelude.{not}
 use Rattle.proto_wire.specs.declared.fault.ModuleKind.{ModuleKind}
 use Rattle.proto_wire.specs.declared.fault.ModuleKind.TheVariants.{Directive, Tab, Indent}
@@ -16,10 +14,10 @@ use Rattle.yaml_block.specs.declared.piece.Line.TheVariants as a_line
 use Rattle.yaml_block.specs.declared.fault.Refusal.{Refusal}
 use Rattle.yaml_block.specs.declared.node.Node.{Node}
 use Rattle.yaml_block.specs.Layout.{Forest, none, grown, lies_in, below, inside, outside, forest}
-use Rattle.yaml_block.specs.Trees.{refusal, wrong, opened, block, block_of, block_below, goes_on, and_key, at_line, ◌orElse◌}
+use Rattle.yaml_block.specs.Trees.{refusal, wrong, opened, block, block_below, goes_on, and_key, at_line, ◌orElse◌}
 use Rattle.yaml_block.specs.Scalars.{is_white, is_item, is_over}
-use Rattle.yaml_block.specs.Lines.{piece, pieces_on, head_on, line_on, marked_line, other_line, refused_line, has_tab, behind_mark, starts_white}
-use Rattle.yaml_block.specs.Documents.{read, trees, documents, document, lines, onto_first, begins_with, without_mark, and_line, line_of, and_tree, Refused}
+use Rattle.yaml_block.specs.Lines.{piece, pieces_on, head_on, marked_line, other_line, refused_line, has_tab, behind_mark, starts_white}
+use Rattle.yaml_block.specs.Documents.{read, trees, documents, lines, onto_first, begins_with, without_mark, and_line, line_of, and_tree, Refused}
 use Rattle.yaml_block.specs.Laws.{IsReadable, meaning}
 use Rattle.yaml_block.proofs.Utf8.{equals, and_left, and_right}
 use Rattle.yaml_block.proofs.Joining.{read_good}
@@ -384,15 +382,19 @@ ended_lines (b ∷ bs) =
     let return = b == 13 && begins_with 10 (bs ++ 10 ∷ []) in
     let same : (back : List ℕ) → (b == 13 && begins_with 10 (bs ++ 10 ∷ back)) ≡ return = λ back. ap (λ v. b == 13 && v) (begins-append bs back []) in
     let P : Bool → Type 0 = λ v. (b == 10) ≡ v → (ls : List (List ℕ)) × (length ls ≡ length (lines (b ∷ bs)))
-        × ((back : List ℕ) → cond v ([] ∷ lines (bs ++ 10 ∷ back)) (cond (b == 13 && begins_with 10 (bs ++ 10 ∷ back)) (lines (bs ++ 10 ∷ back)) (onto_first b (lines (bs ++ 10 ∷ back)))) ≡ ls ++ lines back) in
+    × ((back : List ℕ) → cond v ([] ∷ lines (bs ++ 10 ∷ back)) (cond (b == 13 && begins_with 10 (bs ++ 10 ∷ back)) (lines (bs ++ 10 ∷ back)) (onto_first b (lines (bs ++ 10 ∷ back)))) ≡ ls ++ lines back) in
     let Q : Bool → Type 0 = λ v. return ≡ v → (b == 10) ≡ false → (ls : List (List ℕ)) × (length ls ≡ length (lines (b ∷ bs)))
-        × ((back : List ℕ) → cond (b == 13 && begins_with 10 (bs ++ 10 ∷ back)) (lines (bs ++ 10 ∷ back)) (onto_first b (lines (bs ++ 10 ∷ back))) ≡ ls ++ lines back) in
+    × ((back : List ℕ) → cond (b == 13 && begins_with 10 (bs ++ 10 ∷ back)) (lines (bs ++ 10 ∷ back)) (onto_first b (lines (bs ++ 10 ∷ back))) ≡ ls ++ lines back) in
     elim (b == 10) as P [
       | true ↦ (λ e. ([] ∷ h.0, ap suc h.1 ∙ sym (ap (λ v. length (cond v ([] ∷ lines bs) (cond (b == 13 && begins_with 10 bs) (lines bs) (onto_first b (lines bs))))) e), λ back. ap (λ (ls : List (List ℕ)). [] ∷ ls) (h.2 back)))
       | false ↦ (λ e. elim return as Q [
         | true ↦ (λ r e. (h.0, h.1 ∙ sym (same_length b bs e), λ back. ap (λ v. cond v (lines (bs ++ 10 ∷ back)) (onto_first b (lines (bs ++ 10 ∷ back)))) (same back ∙ r) ∙ h.2 back))
-        | false ↦ (λ r e. (onto_first b h.0, onto_length b h.0 positive ∙ h.1 ∙ sym (same_length b bs e), λ back.
-            ap (λ v. cond v (lines (bs ++ 10 ∷ back)) (onto_first b (lines (bs ++ 10 ∷ back)))) (same back ∙ r) ∙ ap (onto_first b) (h.2 back) ∙ onto b h.0 (lines back) positive))
+        | false ↦ (λ r e. (
+          onto_first b h.0,
+          onto_length b h.0 positive ∙ h.1 ∙ sym (same_length b bs e),
+          λ back.
+              ap (λ v. cond v (lines (bs ++ 10 ∷ back)) (onto_first b (lines (bs ++ 10 ∷ back)))) (same back ∙ r) ∙ ap (onto_first b) (h.2 back) ∙ onto b h.0 (lines back) positive,
+        ))
       ] refl e)
     ] refl
 

@@ -79,7 +79,7 @@ unfolding trees_in
 no_next b [] e = (refl, refl)
 no_next b (p ∷ ps) e =
     let P : Bool → Type 0 = λ v. ◌≡◌ {A = Option (Piece × List Piece)} None (cond v (Some (p, ps)) None)
-        → (◌≡◌ {A = Forest} (cond v (grown p (inside (below p) (forest ps)) (inside b (outside (below p) (forest ps)))) none) none) × (◌≡◌ {A = List Piece} (cond v (rest b ps) (p ∷ ps)) (p ∷ ps)) in
+    → (◌≡◌ {A = Forest} (cond v (grown p (inside (below p) (forest ps)) (inside b (outside (below p) (forest ps)))) none) none) × (◌≡◌ {A = List Piece} (cond v (rest b ps) (p ∷ ps)) (p ∷ ps)) in
     elim (lies_in b p) as P [ true ↦ (λ e. absurd cc) | false ↦ (λ e. (refl, refl)) ] e
 
 pub is_next : (b : Bound) (ps : List Piece) (p : Piece) (qs : List Piece) → Some (p, qs) ≡ next_in b ps → (ps ≡ p ∷ qs) × (lies_in b p ≡ true)

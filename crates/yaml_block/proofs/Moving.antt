@@ -1,7 +1,6 @@
 -- Other numbers of lines, and documents that stand apart.
-use Rattle.std.proofs.Common.{◌≡◌, ℕ, ◌+◌, ◌≤◌, ◌<◌, Bool, true, false, ◌&&◌, ◌||◌, ◌==◌, cond, List, [], ◌∷◌, ◌++◌, length, map, Option, Some, None, Result, Ok, Err, ◌⊎◌, inl, inr, refl, sym, ap, ap₂, subst, ◌∙◌, append_assoc, arith}
+use Rattle.std.proofs.Common.{◌≡◌, ℕ, ◌+◌, ◌≤◌, ◌<◌, Bool, true, false, ◌&&◌, ◌||◌, ◌==◌, cond, List, [], ◌∷◌, ◌++◌, length, map, Option, Some, None, Result, Ok, Err, ◌⊎◌, inl, inr, refl, sym, ap, ap₂, subst, ◌∙◌, arith}
 use Rattle.std.proofs.lemmas.Bool.Decides.{nat_tests}
-use Rattle.std.proofs.lemmas.List.{length-append}
 use Rattle.std.specs.Prelude.{nat_le, not, option_map}
 use Rattle.proto_wire.specs.declared.fault.ModuleKind.{ModuleKind}
 use Rattle.proto_wire.specs.declared.fault.ModuleKind.TheVariants.{Directive, Tab, Indent}
@@ -18,7 +17,7 @@ use Rattle.yaml_block.specs.declared.node.Node.{Node}
 use Rattle.yaml_block.specs.Scalars.{is_white, is_item, is_over, is_end, past_white}
 use Rattle.yaml_block.specs.Lines.{piece, pieces_on, head_on, marked_line, other_line, refused_line, has_tab, behind_mark, starts_white}
 use Rattle.yaml_block.specs.Layout.{Forest, none, grown, lies_in, below, inside, outside, forest}
-use Rattle.yaml_block.specs.Trees.{refusal, wrong, misfit, repeated, unreadable_value, opened, block, block_of, no_block, block_below, goes_on, and_key, at_line, ◌orElse◌}
+use Rattle.yaml_block.specs.Trees.{refusal, misfit, repeated, unreadable_value, opened, block, block_below, goes_on, and_key, at_line, ◌orElse◌}
 use Rattle.yaml_block.specs.Documents.{trees, documents, and_line, line_of, and_tree, Refused}
 use Rattle.yaml_block.proofs.Utf8.{equals}
 use Rattle.yaml_block.proofs.Beginnings.{never_none}
@@ -94,7 +93,7 @@ module _ (g : ℕ → ℕ) where
       let R : Bool → Type 0 = λ v. cond v (piece (g line) column head.Item ∷ pieces_on (g line) (column + 1) bs) (piece (g line) column (head_on b bs) ∷ []) ≡ m (cond v (piece line column head.Item ∷ pieces_on line (column + 1) bs) (piece line column (head_on b bs) ∷ [])) in
       let Q : Bool → Type 0 = λ v. cond v [] (cond (is_item b bs) (piece (g line) column head.Item ∷ pieces_on (g line) (column + 1) bs) (piece (g line) column (head_on b bs) ∷ [])) ≡ m (cond v [] (cond (is_item b bs) (piece line column head.Item ∷ pieces_on line (column + 1) bs) (piece line column (head_on b bs) ∷ []))) in
       let P : Bool → Type 0 = λ v. cond v (pieces_on (g line) (column + 1) bs) (cond (b == 35) [] (cond (is_item b bs) (piece (g line) column head.Item ∷ pieces_on (g line) (column + 1) bs) (piece (g line) column (head_on b bs) ∷ [])))
-          ≡ m (cond v (pieces_on line (column + 1) bs) (cond (b == 35) [] (cond (is_item b bs) (piece line column head.Item ∷ pieces_on line (column + 1) bs) (piece line column (head_on b bs) ∷ [])))) in
+      ≡ m (cond v (pieces_on line (column + 1) bs) (cond (b == 35) [] (cond (is_item b bs) (piece line column head.Item ∷ pieces_on line (column + 1) bs) (piece line column (head_on b bs) ∷ [])))) in
       elim (is_white b) as P [
         | true ↦ moved_pieces_on line (column + 1) bs
         | false ↦ (elim (b == 35) as Q [ true ↦ refl | false ↦ (elim (is_item b bs) as R [ true ↦ ap (λ (ps : List Piece). piece (g line) column head.Item ∷ ps) (moved_pieces_on line (column + 1) bs) | false ↦ refl ]) ])
@@ -245,7 +244,7 @@ no_mark : (bs : List ℕ) → is_end (past_white bs) ≡ true → behind_mark bs
 no_mark [] e = refl
 no_mark (a ∷ []) e = refl
 no_mark (a ∷ b ∷ []) e = refl
-no_mark (a ∷ b ∷ c ∷ rest) e = 
+no_mark (a ∷ b ∷ c ∷ rest) e =
     let first = begins_blank a (b ∷ c ∷ rest) e in
     rw (no_other a 45 first refl refl refl, no_other a 46 first refl refl refl) refl
 

@@ -1,9 +1,9 @@
 -- Pieces have one layout, and a text one list of trees.
-use Rattle.std.proofs.Common.{◌≡◌, ℕ, zero, suc, ◌+◌, ◌≤◌, ◌<◌, Bool, true, false, cond, List, [], ◌∷◌, ◌++◌, length, Option, Some, None, Result, Ok, Err, refl, sym, ap, ap₂, ◌∙◌, append_assoc, arith}
+use Rattle.std.proofs.Common.{◌≡◌, ℕ, zero, suc, ◌+◌, ◌≤◌, Bool, true, false, cond, List, [], ◌∷◌, ◌++◌, length, Option, Some, None, Result, Ok, Err, refl, sym, ap, ap₂, ◌∙◌, append_assoc, arith}
 use Rattle.std.proofs.lemmas.Bool.Decides.{nat_tests}
 use Rattle.std.specs.Prelude.{nat_lt, not}
 use Rattle.proto_wire.specs.declared.fault.ModuleKind.TheVariants.{TooLong, NotUtf8}
-use Rattle.std.specs.Str.{IsUtf8, is_utf8}
+use Rattle.std.specs.Str.{is_utf8}
 use Rattle.std.proofs.lemmas.Str.{IsUtf8-from_is_utf8}
 use Rattle.yaml_block.specs.declared.piece.Piece.{Piece}
 use Rattle.yaml_block.specs.declared.piece.Bound.{Bound}
@@ -12,7 +12,7 @@ use Rattle.yaml_block.specs.declared.node.Node.{Node}
 use Rattle.yaml_block.specs.Layout.{Forest, none, grown, lies_in, below, inside, outside, forest, pieces_of, AllIn, BeginsOutside, IsLaid}
 use Rattle.yaml_block.specs.Trees.{refusal, opened, block}
 use Rattle.yaml_block.specs.Documents.{read, trees, documents, lines, without_mark, and_tree, Refused, bad_line}
-use Rattle.yaml_block.specs.Laws.{IsReadable, IsTreeOf, AreTreesOf, HasTrees}
+use Rattle.yaml_block.specs.Laws.{AreTreesOf, HasTrees}
 use Rattle.yaml_block.proofs.Below.{through}
 use Rattle.yaml_block.proofs.Joining.{read_good}
 
@@ -159,7 +159,7 @@ unfolding read
 read_has_trees text ns e =
     let T : Result (List Node) Refused = trees 1 (documents 1 (lines (without_mark text))) in
     let P : Bool → Type 0 = λ v. nat_lt 1048576 (length text) ≡ v
-        → cond v (Err (0, record { line = 0; kind = TooLong })) (cond (not (is_utf8 text)) (Err (0, record { line = bad_line text; kind = NotUtf8 })) T) ≡ Ok ns → HasTrees text ns in
+    → cond v (Err (0, record { line = 0; kind = TooLong })) (cond (not (is_utf8 text)) (Err (0, record { line = bad_line text; kind = NotUtf8 })) T) ≡ Ok ns → HasTrees text ns in
     let Q : Bool → Type 0 = λ v. nat_lt 1048576 (length text) ≡ false → is_utf8 text ≡ v → cond (not v) (Err (0, record { line = bad_line text; kind = NotUtf8 })) T ≡ Ok ns → HasTrees text ns in
     elim (nat_lt 1048576 (length text)) as P [
       | true ↦ (λ l e. absurd cc)

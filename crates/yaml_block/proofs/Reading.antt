@@ -18,7 +18,6 @@ use Rattle.yaml_block.specs.declared.fault.Refusal.{Refusal}
 use Rattle.yaml_block.specs.declared.fault.BlockFault.{BlockFault}
 use Rattle.yaml_block.specs.declared.fault.BlockFault.TheVariants as fault
 use Rattle.yaml_block.specs.declared.node.Node.{Node}
-use Rattle.yaml_block.specs.declared.node.Pair.{Pair}
 use Rattle.yaml_block.specs.Layout.{Forest, none, grown, lies_in, below}
 use Rattle.yaml_block.specs.Trees.{refusal, wrong, misfit, at_line, opened, no_block, block_of, block_below, goes_on, and_key, repeated, unreadable, unreadable_value, ◌orElse◌, block, items, pairs, pair, scalar, sequence, mapping, by_head, entry, key_of, value_of}
 use Rattle.yaml_block.specs.Steps.{Fails, unless, rest, next_in, trees_in, read_as, read_block, read_value, read_nothing, misplaced_kind, HasInline}

@@ -47,7 +47,7 @@ plain-run : (s : List ℕ) → is_end (past_white s) ≡ false → plain s ≡ r
 plain-run [] n = absurd cc
 plain-run (b ∷ bs) n =
     let P : Bool → Type 0 = λ v. is_white b ≡ v → is_end (cond v (past_white bs) (b ∷ bs)) ≡ false
-        → ◌≡◌ {A = List ℕ} (cond (v && is_end (past_white bs)) [] (b ∷ plain bs)) (cond v (b ∷ run bs) [] ++ plain (cond v (past_white bs) (b ∷ bs))) in
+    → ◌≡◌ {A = List ℕ} (cond (v && is_end (past_white bs)) [] (b ∷ plain bs)) (cond v (b ∷ run bs) [] ++ plain (cond v (past_white bs) (b ∷ bs))) in
     elim (is_white b) as P [
       | true ↦ (λ w n. rw n (ap (λ (r : List ℕ). b ∷ r) (plain-run bs n)))
       | false ↦ (λ w n. rw w refl)
@@ -61,8 +61,8 @@ cut-run : (s : List ℕ) → is_end (past_white s) ≡ false → cut_at_colon s 
 cut-run [] n = absurd cc
 cut-run (b ∷ bs) n =
     let P : Bool → Type 0 = λ v. is_white b ≡ v → is_end (cond v (past_white bs) (b ∷ bs)) ≡ false
-        → ◌≡◌ {A = Found} (cond (v && is_end (past_white bs)) None (cond (b == 58 && is_gap bs) (Some ([], bs)) (in_front b (cut_at_colon bs))))
-        (passed (cond v (b ∷ run bs) []) (cut_at_colon (cond v (past_white bs) (b ∷ bs)))) in
+    → ◌≡◌ {A = Found} (cond (v && is_end (past_white bs)) None (cond (b == 58 && is_gap bs) (Some ([], bs)) (in_front b (cut_at_colon bs))))
+    (passed (cond v (b ∷ run bs) []) (cut_at_colon (cond v (past_white bs) (b ∷ bs)))) in
     elim (is_white b) as P [
       | true ↦ (λ w n. rw (n, white_no_colon b w) (ap (in_front b) (cut-run bs n) ∙ in_front-passed b (run bs) (cut_at_colon (past_white bs))))
       | false ↦ (λ w n. rw w (sym (passed-none (cond (b == 58 && is_gap bs) (Some ([], bs)) (in_front b (cut_at_colon bs))))))

@@ -1,10 +1,8 @@
 -- Words for the laws of the profile.
-use Rattle.std.specs.Prelude.{◌≡◌, ◌⊎◌, ◌≤◌, ℕ, ◌+◌, ◌-◌, nat_le, if◌then◌else◌, Bool, true, List, [], ◌∷◌, ◌++◌, length, map, drop, slice_get, Contains, Option, Some, None, Result, Ok, Err}
+use Rattle.std.specs.Prelude.{◌≡◌, ◌⊎◌, ◌≤◌, ℕ, ◌+◌, ◌-◌, nat_le, if◌then◌else◌, true, List, [], ◌∷◌, ◌++◌, length, map, drop, slice_get, Some, None, Result, Ok, Err}
 use Rattle.std.specs.Str.{IsUtf8}
 use Rattle.yaml_block.specs.declared.piece.Piece.{Piece}
 use Rattle.yaml_block.specs.declared.piece.Head.TheVariants as head
-use Rattle.yaml_block.specs.declared.piece.Line.TheVariants as a_line
-use Rattle.yaml_block.specs.declared.fault.Refusal.{Refusal}
 use Rattle.yaml_block.specs.declared.node.Node.{Node, out-Node}
 use Rattle.yaml_block.specs.Scalars.{is_item}
 use Rattle.yaml_block.specs.Lines.{head_on}

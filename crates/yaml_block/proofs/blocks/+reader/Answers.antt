@@ -4,7 +4,7 @@ use Rattle.yaml_block.specs.declared.piece.Head.TheVariants as head
 use Rattle.yaml_block.specs.Layout.{below}
 use Rattle.yaml_block.specs.Trees.{block_of, scalar, sequence, mapping, items, pairs, pair}
 use Rattle.yaml_block.specs.Steps.{read_as, read_block, read_nothing}
-use Rattle.yaml_block.proofs.Reading.{◌andThen◌, ahead, block_none, block_misfit, block_items, block_pairs, block_scalar, inline_is, value_block, value_scalar, value_refused, fails_then, fails_as, fails_by, read_none, read_misfit, read_repeated, items_more, pairs_more, loop_stops, loop_ends, loop_fails, loop_goes, block_shorter, value_shorter, is_item, refused_misfit}
+use Rattle.yaml_block.proofs.Reading.{◌andThen◌, block_none, block_misfit, block_items, block_pairs, block_scalar, inline_is, value_block, value_scalar, value_refused, fails_then, fails_as, fails_by, read_none, read_misfit, read_repeated, items_more, pairs_more, loop_stops, loop_ends, loop_fails, loop_goes, block_shorter, value_shorter, is_item, refused_misfit}
 use Rattle.yaml_block.proofs.blocks.+reader.Goals as goal
 
 -- ---- a block

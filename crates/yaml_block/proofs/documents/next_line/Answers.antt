@@ -1,8 +1,7 @@
-use Rattle.std.proofs.Common.{◌≡◌, ◌+◌, ◌<◌, false, sym, ap, ◌∙◌, drop, take, length, [], arith}
+use Rattle.std.proofs.Common.{◌≡◌, ◌<◌, sym, ap, ◌∙◌, take, length, [], arith}
 use Rattle.std.proofs.lemmas.List.{append-nil, take_at}
-use Rattle.yaml_block.specs.Documents.{lines}
 use Rattle.yaml_block.proofs.Lexing.{past_one}
-use Rattle.yaml_block.proofs.Texts.{has_feed, last_line, lines_at, before_feed, behind_feed}
+use Rattle.yaml_block.proofs.Texts.{last_line, lines_at, before_feed, behind_feed}
 use Rattle.yaml_block.proofs.documents.next_line.Goals as goal
 
 pub returns-then-len-text-clause-lines : goal.returns-then-len-text-clause-lines

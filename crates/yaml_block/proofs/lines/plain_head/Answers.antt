@@ -1,4 +1,4 @@
-use Rattle.std.proofs.Common.{◌+◌, ap, ◌∙◌, drop, arith}
+use Rattle.std.proofs.Common.{ap, ◌∙◌, drop, arith}
 use Rattle.yaml_block.specs.Scalars.{plain}
 use Rattle.yaml_block.specs.Lines.{inline_on}
 use Rattle.yaml_block.proofs.Utf8.{plain_utf8, key_utf8}
