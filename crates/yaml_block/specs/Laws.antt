@@ -1,5 +1,6 @@
 -- Words for the laws of the profile.
-use Rattle.std.specs.Prelude.{◌≡◌, ◌⊎◌, ◌≤◌, ℕ, ◌+◌, ◌-◌, nat_le, if◌then◌else◌, true, List, [], ◌∷◌, ◌++◌, length, map, drop, slice_get, Some, None, Result, Ok, Err}
+use Rattle.std.specs.Prelude.{◌≡◌, ◌⊎◌, ◌≤◌, ℕ, ◌+◌, ◌-◌, nat_le, if◌then◌else◌, true, List, []}
+use Rattle.std.specs.Prelude.{◌∷◌, ◌++◌, length, map, drop, slice_get, Some, None, Result, Ok, Err}
 use Rattle.std.specs.Str.{IsUtf8}
 use Rattle.yaml_block.specs.declared.piece.Piece.{Piece}
 use Rattle.yaml_block.specs.declared.piece.Head.TheVariants as head

@@ -17,7 +17,8 @@ is_entry_head (head.Entry _ _) = true
 is_entry_head (head.Scalar _) = false
 is_entry_head (head.Refused _) = false
 
--- What is indented further than a piece lies below it. A sequence may stand at its key's own indentation, so below a key a `-` counts as one column further right.
+-- What is indented further than a piece lies below it. A sequence may stand at its key's own indentation, so below a key
+-- a `-` counts as one column further right.
 abbrev pub below : Piece → Bound
 below p = record { least = p.column + 1; below_key = is_entry_head p.head }
 

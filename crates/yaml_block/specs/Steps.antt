@@ -73,7 +73,8 @@ read_block level line b ps = read_as (block line) level (opened (trees_in b ps))
 unfoldable pub read_value : ℕ → Piece → List Piece → Result (Node × List Piece) Refusal
 read_value level p ps =
     let under = trees_in (below p) ps in
-    unless (at_line p.line (unreadable_value p.head) orElse refusal (level + 1) (block_below p.head under) [] under) (value_of p.line p.head (block p.line under), rest (below p) ps)
+    unless (at_line p.line (unreadable_value p.head) orElse refusal (level + 1) (block_below p.head under) [] under)
+    (value_of p.line p.head (block p.line under), rest (below p) ps)
 
 abbrev pub misplaced_kind : Head → ModuleKind
 misplaced_kind head.Item = Indent

@@ -146,9 +146,12 @@ fn take_line(
     requires room { length nodes.old < 2 ^ 31 }
     requires length { length content.now < 2 ^ 32 }
     requires utf8 { IsUtf8 content.now }
-    ensures ok { OnOk result ((ds : List (List Piece)) → trees_on nodes.new pieces.new.items ds ≡ trees_on nodes.old pieces.old.items (spec.and_line (spec.line_of line content.now) ds)) }
+    ensures ok { OnOk result ((ds : List (List Piece))
+        → trees_on nodes.new pieces.new.items ds
+        ≡ trees_on nodes.old pieces.old.items (spec.and_line (spec.line_of line content.now) ds)) }
     ensures more { OnOk result (length nodes.new ≤ length nodes.old + 1) }
-    ensures refused { IfErr result (λ fault. (ds : List (List Piece)) → spec.IsToldBy fault (trees_on nodes.old pieces.old.items (spec.and_line (spec.line_of line content.now) ds))) }
+    ensures refused { IfErr result (λ fault. (ds : List (List Piece))
+        → spec.IsToldBy fault (trees_on nodes.old pieces.old.items (spec.and_line (spec.line_of line content.now) ds))) }
 {
     match line_on(alloc, line, content)? {
         Line::Mark => {

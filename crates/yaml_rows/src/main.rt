@@ -23,11 +23,13 @@ impl Rows for YamlRows {
         let bytes = text_of_row(alloc, row)?;
         match read_documents(alloc, bytes.as_slice()) {
             Ok(nodes) => trees_of(alloc, &nodes),
-            Err(YamlFault::Refused {
-                document,
-                line,
-                kind,
-            }) => {
+            Err(
+                YamlFault::Refused {
+                    document,
+                    line,
+                    kind,
+                },
+            ) => {
                 let kind = name_of(kind);
                 Ok(format!(in alloc; "  refused {document} {line} {kind}\n")?)
             }

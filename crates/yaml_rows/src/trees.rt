@@ -15,21 +15,21 @@ pub(crate) fn put_node(alloc: Global, node: &Node, into: &mut Text) -> Mem<()> {
         NodeKind::Scalar(text) => put_quoted(alloc, text, into)?,
         NodeKind::Mapping(pairs) => {
             into.append("{")?;
-            let mut between = "";
+            let mut more = false;
             for pair in pairs.as_slice() {
-                into.append(between)?;
+                put_between(more, into)?;
                 put_pair(alloc, pair, into)?;
-                between = ", ";
+                more = true;
             }
             into.append("}")?;
         }
         NodeKind::Sequence(items) => {
             into.append("[")?;
-            let mut between = "";
+            let mut more = false;
             for item in items.as_slice() {
-                into.append(between)?;
+                put_between(more, into)?;
                 put_node(alloc, item, into)?;
-                between = ", ";
+                more = true;
             }
             into.append("]")?;
         }
@@ -43,6 +43,11 @@ fn put_pair(alloc: Global, pair: &Pair, into: &mut Text) -> Mem<()> {
     put_line(alloc, pair.line, into)?;
     into.append(": ")?;
     put_node(alloc, &pair.value, into)
+}
+
+/// What stands before a part that is not the first.
+fn put_between(more: bool, into: &mut Text) -> Mem<()> {
+    if more { into.append(", ") } else { Ok(()) }
 }
 
 fn put_quoted(alloc: Global, text: &Text, into: &mut Text) -> Mem<()> {
