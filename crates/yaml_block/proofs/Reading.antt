@@ -28,7 +28,7 @@ abbrev pub ◌andThen◌ : {A B : Type 0} → Result A Refusal → (A → Result
 (Ok x) andThen f = f x
 (Err r) andThen f = Err r
 
--- what was read before, and what is still read
+-- items or pairs in front of those that are read from here on
 abbrev pub ahead : {A : Type 0} → List A → Result (List A × List Piece) Refusal → Result (List A × List Piece) Refusal
 ahead front more = more andThen (λ x. Ok (front ++ x.0, x.1))
 

@@ -43,7 +43,7 @@ block_below head.Item under = opened under
 block_below (head.Entry _ inline.Nothing) under = opened under
 block_below _ under = no_block
 
--- A scalar is a block of one line.
+-- A scalar takes one line: behind it its block is closed.
 abbrev pub goes_on : Block → Head → Block
 goes_on home (head.Scalar _) = no_block
 goes_on home _ = home
@@ -94,7 +94,7 @@ at_line line (Some kind) = Some (record { line = line; kind = kind })
 abbrev pub wrong : ℕ → Block → List (List ℕ) → Piece → Option Refusal
 wrong level home keys p = at_line p.line (misfit level home p orElse (repeated keys p.head orElse unreadable_value p.head))
 
--- ---- the first refusal
+-- ---- the first of all refusals
 
 abbrev pub and_key : List (List ℕ) → Head → List (List ℕ)
 and_key keys (head.Entry key value) = keys ++ key ∷ []

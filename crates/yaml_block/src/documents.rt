@@ -1,4 +1,4 @@
-//! The documents of a text.
+//! From a text to the trees of its documents.
 ghost use Rattle.std.specs.Prelude.{◌≡◌, ◌==◌, ◌≤◌, ◌<◌, ◌+◌, ◌^◌, Ok, count_by, length, take, slice_index, false, List, option_map, IfSome, IfOk, IfErr, OnOk, IsUtf8};
 ghost use Rattle.std.specs.List.{list_any};
 ghost use Rattle.yaml_block.specs.Documents as spec;
@@ -191,7 +191,7 @@ fn close(alloc: Global, nodes: &mut List<Node>, pieces: &[Piece]) -> Result<(), 
     }
 }
 
-/// The tree of a document.
+/// Reads the pieces of one document.
 fn tree(alloc: Global, pieces: &[Piece]) -> Result<Node, BlockFault>
     ensures { Answers (λ x. x) result (document_tree (forest pieces.now)) }
 {

@@ -6,7 +6,7 @@ ghost use Rattle.yaml_block.specs.declared.fault.BlockFault.TheVariants.{OutOfMe
 use proto_wire::{ModuleKind, OutOfMemory};
 use std::alloc::{AllocError, AllocFailed};
 
-/// Why a text has no trees.
+/// Why there are no trees.
 #[derive(Clone, Copy, Debug, PartialEq, Eq)]
 pub enum YamlFault {
     /// The first line that the profile refuses, and in it the leftmost fault.
@@ -38,7 +38,7 @@ impl From<AllocError> for YamlFault {
     }
 }
 
-/// A line that is refused, and why.
+/// The first refusal in a block.
 #[derive(Clone, Copy, Debug, PartialEq, Eq)]
 pub(crate) struct Refusal {
     pub(crate) line: u32,

@@ -1,4 +1,4 @@
-//! The keys of a mapping so far.
+//! Keys that a mapping has already.
 ghost use Rattle.std.specs.Prelude.{◌≡◌, [], ◌∷◌, ◌++◌, IfOk};
 ghost use Rattle.std.specs.List.{list_any};
 ghost use Rattle.std.specs.Str.{bytes_eq};

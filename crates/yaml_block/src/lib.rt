@@ -19,3 +19,4 @@ mod scalars;
 pub use documents::read_documents;
 pub use fault::YamlFault;
 pub use node::{Node, NodeKind, Pair};
+pub use sqlite_items::Items;

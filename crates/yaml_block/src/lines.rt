@@ -1,4 +1,4 @@
-//! What stands on a line.
+//! One line by itself: its pieces.
 ghost use Rattle.std.specs.Prelude.{◌≡◌, ◌≤◌, ◌+◌, ◌<◌, ◌^◌, ◌∷◌, length, option_map, IfOk, IsUtf8};
 ghost use Rattle.yaml_block.specs.Lines as spec;
 ghost use Rattle.yaml_block.specs.Scalars as scalar;
@@ -68,7 +68,7 @@ fn refused_line(alloc: Global, line: u32, kind: ModuleKind) -> Mem<Line>
     Ok(Line::Pieces(pieces))
 }
 
-/// Whether there is a tab among the leading white space.
+/// Whether one of the white bytes that a line begins with is a tab.
 fn has_tab(text: &[u8]) -> bool
     ensures { result ≡ spec.has_tab text.now }
 {

@@ -22,7 +22,7 @@ pub enum NodeKind {
     Sequence(Items<Node>),
 }
 
-/// A key with its value.
+/// A key and what it stands for.
 #[cycle(tree)]
 #[derive(Drop)]
 pub struct Pair {

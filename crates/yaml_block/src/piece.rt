@@ -34,7 +34,7 @@ pub(crate) struct Piece {
 /// What a line is.
 #[derive(Drop)]
 pub(crate) enum Line {
-    /// It begins or ends a document.
+    /// `---` or `...`.
     Mark,
     /// None where it is blank or a comment.
     Pieces(List<Piece>),

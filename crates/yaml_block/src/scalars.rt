@@ -35,7 +35,7 @@ pub(crate) fn past_white(text: &[u8]) -> &[u8]
     rest
 }
 
-/// Whether the line ends here, or a comment begins.
+/// Whether nothing but a comment can follow.
 fn is_end(text: &[u8]) -> bool
     ensures { result ≡ spec.is_end text.now }
 {
@@ -72,7 +72,7 @@ pub(crate) fn is_item(first: u8, rest: &[u8]) -> bool
     first == b'-' && is_gap(rest)
 }
 
-/// The text from a place on.
+/// What follows the first bytes of a text.
 fn from_place(text: &[u8], at: usize) -> &[u8]
     requires { at ≤ length text.now }
     ensures { result.now ≡ drop at text.now }
@@ -138,7 +138,7 @@ pub(crate) fn colon_in(text: &[u8]) -> Option<usize>
     None
 }
 
-/// Why no plain scalar begins so.
+/// What a plain scalar may not begin with.
 pub(crate) fn foreign(first: u8, rest: &[u8]) -> Option<ModuleKind>
     ensures { result ≡ spec.foreign first rest.now }
 {
