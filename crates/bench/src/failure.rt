@@ -2,13 +2,14 @@
 use proto_wire::{DecodeFault, OutOfMemory};
 use std::alloc::{AllocError, AllocFailed};
 use std::io;
+use yaml_block::YamlFault;
 
 /// Why the program gave no line.
 #[derive(Clone, Copy, Debug, PartialEq, Eq)]
 pub(crate) enum Failure {
-    /// The words are not `letters N R`, `request N R` or `answer N R`.
+    /// The words are not `letters N R`, `request N R`, `answer N R` or `module N R`.
     Words,
-    /// A message that was encoded was not decoded.
+    /// A message that was encoded was not decoded, or the module file is refused.
     Fault,
     /// A call could not get the memory that it asked for.
     OutOfMemory,
@@ -30,8 +31,8 @@ impl Failure {
     /// What is told of it.
     pub(crate) fn text(self) -> &'static str {
         match self {
-            Failure::Words => "the words are: letters|request|answer NUMBER ROUNDS",
-            Failure::Fault => "a message was not decoded",
+            Failure::Words => "the words are: letters|request|answer|module NUMBER ROUNDS",
+            Failure::Fault => "a message was not decoded, or the module file is refused",
             Failure::OutOfMemory => "out of memory",
             Failure::System => "the words could not be read, or the line not be written",
         }
@@ -61,6 +62,15 @@ impl From<DecodeFault> for Failure {
         match fault {
             DecodeFault::Wire(_) => Failure::Fault,
             DecodeFault::OutOfMemory => Failure::OutOfMemory,
+        }
+    }
+}
+
+impl From<YamlFault> for Failure {
+    fn from(fault: YamlFault) -> Failure {
+        match fault {
+            YamlFault::Refused { .. } => Failure::Fault,
+            YamlFault::OutOfMemory => Failure::OutOfMemory,
         }
     }
 }

@@ -1,9 +1,11 @@
-//! The program `bench`: makes messages, and decodes and encodes them again and again. `bench/run` times it.
+//! The program `bench`: makes messages, and decodes and encodes them again and again, or reads the module file on standard
+//! input again and again. `bench/run` times it.
 #![tactic(auto)]
 
 mod answers;
 mod failure;
 mod letters;
+mod modules;
 mod parts;
 mod requests;
 mod tally;
@@ -48,5 +50,6 @@ fn done(rt: &HostRuntime, work: Work, count: u32, rounds: u32) -> Result<Tally, 
         Work::Letters => letters::work(alloc, count, rounds),
         Work::Request => requests::work(alloc, count, rounds),
         Work::Answer => answers::work(alloc, count, rounds),
+        Work::Module => modules::work(rt, count, rounds),
     }
 }

@@ -2,7 +2,7 @@
 use crate::failure::Failure;
 use std::env;
 
-/// What is decoded and encoded.
+/// What is decoded and encoded, or read.
 #[derive(Clone, Copy, Debug, PartialEq, Eq)]
 pub(crate) enum Work {
     /// Letters, one by one.
@@ -11,6 +11,8 @@ pub(crate) enum Work {
     Request,
     /// One answer with many messages for functions.
     Answer,
+    /// The module file on standard input.
+    Module,
 }
 
 impl Work {
@@ -20,6 +22,7 @@ impl Work {
             Work::Letters => "letters",
             Work::Request => "request",
             Work::Answer => "answer",
+            Work::Module => "module",
         }
     }
 }
@@ -28,9 +31,9 @@ impl Work {
 #[derive(Clone, Copy, Debug, PartialEq, Eq)]
 pub(crate) struct Task {
     pub(crate) work: Work,
-    /// How many letters or messages there are.
+    /// How many letters, messages or documents there are.
     pub(crate) count: u32,
-    /// How often all of them are decoded and encoded.
+    /// How often all of them are decoded and encoded, or read.
     pub(crate) rounds: u32,
 }
 
@@ -56,6 +59,7 @@ fn work_of(word: &str) -> Result<Work, Failure> {
         "letters" => Ok(Work::Letters),
         "request" => Ok(Work::Request),
         "answer" => Ok(Work::Answer),
+        "module" => Ok(Work::Module),
         _ => Err(Failure::Words),
     }
 }

@@ -1,0 +1,11 @@
+pub mod Scanning
+pub mod Utf8
+pub mod Lexing
+pub mod Texts
+pub mod Below
+pub mod Reading
+pub mod Joining
+pub mod OneReading
+pub mod Beginnings
+pub mod Moving
+pub mod Places
