@@ -7,3 +7,5 @@ pub mod Spelling
 pub mod StoredAgain
 pub mod Wrappers
 pub mod WrappersAgain
+pub mod Cells
+pub mod Delays

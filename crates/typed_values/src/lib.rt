@@ -3,6 +3,8 @@
 
 mod address;
 mod cell;
+mod cells;
+mod copies;
 mod letter;
 mod messages;
 mod name;
@@ -15,6 +17,8 @@ mod wrapped;
 
 pub use address::Address;
 pub use cell::{CellSpec, Expiry};
+pub use cells::{Cell, Shipped};
+pub use copies::copy_of_value;
 pub use letter::{Letter, Sender};
 pub use name::TypeName;
 pub use parse::{NameFault, parse_name, parse_type_name};
