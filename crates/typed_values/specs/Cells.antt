@@ -1,5 +1,5 @@
 -- The cells of an address: what a batch and a registration do to them, and when a value is gone.
-use Rattle.std.specs.Prelude.{ℕ, ◌+◌, nat_le, Bool, false, if◌then◌else◌, List, [], ◌∷◌, ◌++◌, map, Option, Some, None, is_some}
+use Rattle.std.specs.Prelude.{ℕ, ◌+◌, nat_le, Bool, false, if◌then◌else◌, List, [], ◌∷◌, ◌++◌, Option, Some, None, is_some}
 use Rattle.typed_values.specs.declared.cell.CellSpec.{CellSpec}
 use Rattle.typed_values.specs.declared.cell.Expiry.{Expiry}
 use Rattle.typed_values.specs.declared.cell.Expiry.TheVariants.{Never, AfterWrite, AfterInvoke}
@@ -51,7 +51,7 @@ invoked moment cell = if is_expired moment cell then emptied cell else record { 
 -- ---- the cells of an address, in order of registration
 
 abbrev pub is_named : List ℕ → Cell → Bool
-is_named name cell = same_bytes cell.spec.name name
+is_named name cell = same_bytes name cell.spec.name
 
 abbrev pub found : List ℕ → List Cell → Option Cell
 found name [] = None
@@ -63,4 +63,5 @@ registered spec cells = if is_some (found spec.name cells) then cells else cells
 
 -- the cell of a name is changed
 abbrev pub changed : (Cell → Cell) → List ℕ → List Cell → List Cell
-changed change name cells = map (λ cell. if is_named name cell then change cell else cell) cells
+changed change name [] = []
+changed change name (cell ∷ cells) = if is_named name cell then change cell ∷ cells else cell ∷ changed change name cells

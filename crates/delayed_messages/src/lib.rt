@@ -1,0 +1,2 @@
+//! Delayed letters.
+#![tactic(auto)]
