@@ -5,15 +5,12 @@ ghost use Rattle.state_cells.specs.Answers.{Answers, registering, modifying, del
 ghost use Rattle.state_cells.specs.Kept.{AreCells};
 
 use crate::CellFault;
-use crate::kept::{add, invoke_all, write};
+use crate::kept::{clear_named, copy_named, invoke_all, register_named, ship_all, write_named};
 use indexmap::IndexMap;
 use proto_wire::{List, Mem, Text, TryClone};
 use std::alloc::Global;
 use std::marker::Model;
 use typed_values::{Cell, CellSpec, Shipped, TypedValue};
-
-/// The most cells of an address.
-pub const MOST_CELLS: usize = 64;
 
 /// The cells of an address. Contracts see the list of them, in order of registration.
 #[derive(Drop)]
@@ -77,18 +74,7 @@ impl Cells {
         ensures cells { OnOk result (self.new ≡ registered spec self.old) }
         ensures refused { OnErr result (self.new ≡ self.old) }
     {
-        if let Some(cell) = self.cells.get(&spec.name) {
-            return if cell.spec.typename == spec.typename {
-                Ok(false)
-            } else {
-                Err(CellFault::TypeDiffers)
-            };
-        }
-        if self.cells.len() >= MOST_CELLS {
-            return Err(CellFault::TooMany);
-        }
-        add(&mut self.cells, self.alloc, spec)?;
-        Ok(true)
+        register_named(&mut self.cells, self.alloc, spec)
     }
 
     /// Writes a value into the cell of a name, at a moment in milliseconds. In this order: `UnknownName` where no cell has
@@ -100,10 +86,7 @@ impl Cells {
         ensures cells { OnOk result (self.new ≡ changed (written value moment) name.now self.old) }
         ensures refused { OnErr result (self.new ≡ self.old) }
     {
-        match self.cells.get_mut(name) {
-            Some(cell) => write(cell, value, moment),
-            None => Err(CellFault::UnknownName),
-        }
+        write_named(&mut self.cells, name, value, moment)
     }
 
     /// Drops the value of the cell of a name; `UnknownName` exactly where no cell has it. Takes no memory.
@@ -111,13 +94,7 @@ impl Cells {
         ensures answer { result ≡ deleting name.now self.old }
         ensures cells { self.new ≡ changed emptied name.now self.old }
     {
-        match self.cells.get_mut(name) {
-            Some(cell) => {
-                cell.clear();
-                Ok(())
-            }
-            None => Err(CellFault::UnknownName),
-        }
+        clear_named(&mut self.cells, name)
     }
 
     /// What an invocation at a moment does to the cells: values that have expired are dropped, and then the time of each
@@ -132,20 +109,13 @@ impl Cells {
     pub fn shipped(&self, moment: u64) -> Mem<List<Shipped>>
         ensures { IfOk result (λ list. list ≡ map (shipped moment) self.now) }
     {
-        let mut list = List::new(self.alloc);
-        for cell in self.cells.values() {
-            list.push(cell.ship(self.alloc, moment)?)?;
-        }
-        Ok(list)
+        ship_all(self.alloc, self.cells.values().as_slice(), moment)
     }
 }
 
 impl TryClone for Cells {
     fn try_clone(&self, alloc: Global) -> Mem<Cells> {
-        let mut copy = IndexMap::with_capacity(alloc, self.cells.len())?;
-        for (name, cell) in &self.cells {
-            copy.insert(name.try_clone(alloc)?, cell.try_clone(alloc)?)?;
-        }
-        Ok(Cells { cells: copy, alloc })
+        let cells = copy_named(alloc, self.cells.values().as_slice())?;
+        Ok(Cells { cells, alloc })
     }
 }

@@ -1,0 +1,5 @@
+mod Named
+mod Setting
+mod Rows
+mod Invoking
+mod Registering
