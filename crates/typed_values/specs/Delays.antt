@@ -6,7 +6,7 @@ use Rattle.typed_values.specs.Sameness.{same_bytes, same_address}
 
 -- a cancellation is for all of its sender's with its token
 abbrev pub is_meant : Address → List ℕ → Delay → Bool
-is_meant sender token delay = same_address delay.sender sender && same_bytes delay.token token
+is_meant sender token delay = same_bytes delay.token token && same_address delay.sender sender
 
 abbrev pub cancelled : Address → List ℕ → List Delay → List Delay
 cancelled sender token delays = filter (λ delay. not (is_meant sender token delay)) delays
