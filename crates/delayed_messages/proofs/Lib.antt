@@ -1,3 +1,4 @@
 mod Orders
 mod Places
 mod Removing
+mod Sorting

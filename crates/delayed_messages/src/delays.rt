@@ -3,7 +3,7 @@ ghost use Rattle.std.specs.Prelude.{◌≡◌, ◌+◌, ◌-◌, ◌<◌, ◌≤
 ghost use Rattle.typed_values.specs.Delays.{is_meant, cancelled, due_at};
 ghost use Rattle.delayed_messages.specs.Waiting.{TakesDue};
 
-use crate::queue::{Numbered, copied, enqueue, remove_meant};
+use crate::queue::{Numbered, by_put, delays_of, enqueue, remove_meant};
 use proto_wire::{List, Mem, OutOfMemory, Text};
 use std::alloc::Global;
 use std::collections::VecDeque;
@@ -100,12 +100,6 @@ impl Delays {
     pub fn waiting(&self) -> Mem<List<Delay>>
         ensures { IfOk result (λ list. list ≡ self.now.delays) }
     {
-        let mut copies = copied(self.alloc, &self.queue)?;
-        copies.sort_by_key(|kept| kept.number)?;
-        let mut list = List::new(self.alloc);
-        for kept in copies {
-            list.push(kept.delay)?;
-        }
-        Ok(list)
+        delays_of(self.alloc, by_put(self.alloc, &self.queue)?)
     }
 }

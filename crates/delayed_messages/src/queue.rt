@@ -1,10 +1,10 @@
 //! Delays in the order in which they come due.
-ghost use Rattle.std.specs.Prelude.{◌≡◌, ◌<◌, ◌≤◌, ◌+◌, length, filter, not, insert, IfOk};
+ghost use Rattle.std.specs.Prelude.{◌≡◌, ◌<◌, ◌≤◌, ◌+◌, length, filter, not, insert, IfOk, map};
 ghost use Rattle.std.specs.VecDeque.{deque_len, deque_capacity};
 ghost use Rattle.typed_values.specs.Delays.{is_meant};
-ghost use Rattle.delayed_messages.specs.Queue.{IsQueue, IsPlace, IsPut};
+ghost use Rattle.delayed_messages.specs.Queue.{IsQueue, IsPlace, IsPut, by_number, delay_of};
 
-use proto_wire::{Mem, Text, TryClone};
+use proto_wire::{List, Mem, Text, TryClone};
 use std::alloc::Global;
 use std::collections::VecDeque;
 use typed_values::{Address, Delay};
@@ -61,7 +61,7 @@ pub fn remove_meant(queue: &mut VecDeque<Numbered>, sender: &Address, token: &Te
 }
 
 /// Copies of the delays, in the same order.
-pub fn copied(alloc: Global, queue: &VecDeque<Numbered>) -> Mem<Vec<Numbered>>
+fn copied(alloc: Global, queue: &VecDeque<Numbered>) -> Mem<Vec<Numbered>>
     ensures { IfOk result (λ copy. copy.items ≡ queue.now.items) }
 {
     let mut copy = Vec::with_capacity(alloc, queue.len())?;
@@ -73,4 +73,25 @@ pub fn copied(alloc: Global, queue: &VecDeque<Numbered>) -> Mem<Vec<Numbered>>
         })?;
     }
     Ok(copy)
+}
+
+/// Copies of the delays in order of their numbers.
+pub fn by_put(alloc: Global, queue: &VecDeque<Numbered>) -> Mem<Vec<Numbered>>
+    requires { IsQueue queue.now.items }
+    ensures { IfOk result (λ copy. copy.items ≡ by_number queue.now.items) }
+{
+    let mut copy = copied(alloc, queue)?;
+    copy.sort_by_key(|kept| kept.number)?;
+    Ok(copy)
+}
+
+/// The delays without their numbers.
+pub fn delays_of(alloc: Global, numbered: Vec<Numbered>) -> Mem<List<Delay>>
+    ensures { IfOk result (λ list. list ≡ map delay_of numbered.items) }
+{
+    let mut list = List::new(alloc);
+    for kept in numbered {
+        list.push(kept.delay)?;
+    }
+    Ok(list)
 }
