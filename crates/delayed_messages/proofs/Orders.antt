@@ -281,6 +281,7 @@ room-grows capacity count fewer next less = omega (arith, less)
 module _ (kept : Numbered) (old new : List Numbered) (queue : IsQueue old) (below : AreBelow kept.number old) (is-put : IsPut kept old new) where
   abbrev front : List Numbered
   front = take is-put.0 old
+
   abbrev back : List Numbered
   back = drop is-put.0 old
 

@@ -36,4 +36,5 @@ behind P (x ∷ xs) (suc i) each = behind P xs i (λ k d after lies. each (suc k
 pub place-from : (due : ℕ) (xs : List Numbered) (i : ℕ) → i ≤ length xs → IsPartitionPoint (λ kept. nat_le kept.delay.due due ≡ true) (λ kept. nat_le kept.delay.due due ≡ false) xs i → IsPlace due xs i
 place-from due xs i within point = (
   in-front (λ kept. kept.delay.due ≤ due) xs i (λ k d before lies. leb-true (get_or xs k d).delay.due due (point.0 k d (omega arith) before)),
-  behind (λ kept. due < kept.delay.due) xs i (λ k d after lies. leb-false (get_or xs k d).delay.due due (point.1 k d after lies)))
+  behind (λ kept. due < kept.delay.due) xs i (λ k d after lies. leb-false (get_or xs k d).delay.due due (point.1 k d after lies)),
+)

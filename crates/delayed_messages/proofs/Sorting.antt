@@ -43,7 +43,7 @@ from-filed z x (y ∷ ys) there = by (nat_lt x.number y.number) there (from-file
     by : (first : Bool) → In z (if first then x ∷ y ∷ ys else y ∷ filed x ys) → (In z (filed x ys) → (z ≡ x) ⊎ In z ys) → (z ≡ x) ⊎ ((z ≡ y) ⊎ In z ys)
     by true t more = t
     by false (inl e) more = inr (inl e)
-    by false (inr t) more = elim (more t) [ | inl e ↦ inl e | inr s ↦ inr (inr s) ]
+    by false (inr t) more = elim (more t) [ inl e ↦ inl e | inr s ↦ inr (inr s) ]
 
 in-by_number : (z : Numbered) (xs : List Numbered) → In z xs → In z (by_number xs)
 in-by_number z [] there = absurd there
@@ -52,7 +52,7 @@ in-by_number z (x ∷ xs) (inr there) = in-filed z x (by_number xs) (inr (in-by_
 
 from-by_number : (z : Numbered) (xs : List Numbered) → In z (by_number xs) → In z xs
 from-by_number z [] there = there
-from-by_number z (x ∷ xs) there = elim (from-filed z x (by_number xs) there) [ | inl e ↦ inl e | inr t ↦ inr (from-by_number z xs t) ]
+from-by_number z (x ∷ xs) there = elim (from-filed z x (by_number xs) there) [ inl e ↦ inl e | inr t ↦ inr (from-by_number z xs t) ]
 
 -- ---- lists with the same elements, both strictly rising
 
@@ -74,9 +74,11 @@ same-elements (x ∷ xs) (y ∷ ys) up down to fro =
     heads (inl e) there = e
     heads (inr t) (inl e) = sym e
     heads (inr t) (inr s) = absurd (omega (arith, above (λ z. y.number < z.number) x ys down.0 t, above (λ z. x.number < z.number) y xs up.0 s))
+
     forth : (z : Numbered) → In z xs → (z ≡ y) ⊎ In z ys → x ≡ y → In z ys
     forth z t (inl e) head = let less = above (λ w. x.number < w.number) z xs up.0 t in let n : z.number ≡ x.number = ap (λ (w : Numbered). w.number) (e ∙ sym head) in absurd (omega (arith, less, n))
     forth z t (inr s) head = s
+
     back : (z : Numbered) → In z ys → (z ≡ x) ⊎ In z xs → x ≡ y → In z xs
     back z t (inl e) head = let less = above (λ w. y.number < w.number) z ys down.0 t in let n : z.number ≡ y.number = ap (λ (w : Numbered). w.number) (e ∙ head) in absurd (omega (arith, less, n))
     back z t (inr s) head = s
@@ -109,5 +111,5 @@ pub sorted-is : (queue sorted : List Numbered) → IsQueue queue → IsPermutati
 sorted-is queue sorted good moved rise =
     let apart = IsDistinct-IsPermutation (λ (a b : Numbered). nat_eq a.number b.number) (λ a b. nat_eq_equiv.symm a.number b.number) queue sorted moved (numbers-apart queue good) in
     same-elements sorted (by_number queue) (up-from sorted rise apart) (up-by_number queue good)
-      (λ z t. let c = Contains-permutation sorted queue z (IsPermutation-sym queue sorted moved) (in-contains z sorted t) in in-by_number z queue (contains-in z queue c.0 c.1 c.2))
-      (λ z t. let c = Contains-permutation queue sorted z moved (in-contains z queue (from-by_number z queue t)) in contains-in z sorted c.0 c.1 c.2)
+    (λ z t. let c = Contains-permutation sorted queue z (IsPermutation-sym queue sorted moved) (in-contains z sorted t) in in-by_number z queue (contains-in z queue c.0 c.1 c.2))
+    (λ z t. let c = Contains-permutation queue sorted z moved (in-contains z queue (from-by_number z queue t)) in contains-in z sorted c.0 c.1 c.2)

@@ -3,3 +3,4 @@ mod Setting
 mod Rows
 mod Invoking
 mod Registering
+mod Living

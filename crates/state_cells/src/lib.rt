@@ -4,6 +4,8 @@
 mod cells;
 mod fault;
 mod kept;
+mod laws;
 
 pub use cells::Cells;
 pub use fault::CellFault;
+pub use laws::{a_value_lives_from_its_use, a_value_lives_from_its_write, a_value_stays_for_good};

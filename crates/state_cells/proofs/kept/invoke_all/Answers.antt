@@ -14,6 +14,7 @@ loop-place-preserved c =
     let i = c.loop-place.place in
     let old = c.index_mut.result.now in
     let in-range : i < length es = omega (arith, c.loop-place-test.true, c.len-place-end.ensures.len) in
-    let is : get_or (values_of es) i old ≡ old = sym (still change i es old in-range) ∙ ap (λ fs. get_or (values_of fs) i old) (sym c.loop-place.invariant.0) ∙ get_or_from_slice_get _ i old old c.index_mut.ensures.value in
-    (rw add-one (ap (λ w. set_value_at c.loop-place.cells.entries i w) (c.invoke.ensures ∙ ap change (sym is)) ∙ ap (λ fs. set_value_at fs i (change (get_or (values_of es) i old))) c.loop-place.invariant.0 ∙ each-step change i es old in-range),
-     length-set_value_at c.loop-place.cells.entries i c.invoke.new.self ∙ c.loop-place.invariant.1)
+    let is : get_or (values_of es) i old ≡ old = sym (still change i es old in-range) ∙ ap (λ fs. get_or (values_of fs) i old) (sym c.loop-place.invariant.0) ∙ get_or_from_slice_get _ i old old c.index_mut.ensures.value in (
+      rw add-one (ap (λ w. set_value_at c.loop-place.cells.entries i w) (c.invoke.ensures ∙ ap change (sym is)) ∙ ap (λ fs. set_value_at fs i (change (get_or (values_of es) i old))) c.loop-place.invariant.0 ∙ each-step change i es old in-range),
+      length-set_value_at c.loop-place.cells.entries i c.invoke.new.self ∙ c.loop-place.invariant.1,
+    )

@@ -11,7 +11,7 @@ pub invariant_of-self : goal.invariant_of-self
 invariant_of-self c =
     let keep = left (is_meant c.args.sender.now c.args.token.now) in
     subst (λ xs. IsQueue xs × AreBelow c.self.inside.next xs) (sym c.remove_meant.ensures.kept)
-      (queue-filter keep c.self.inside.queue.items c.self.invariant.0, all-filter keep (λ (x : Numbered). x.number < c.self.inside.next) c.self.inside.queue.items c.self.invariant.1)
+    (queue-filter keep c.self.inside.queue.items c.self.invariant.0, all-filter keep (λ (x : Numbered). x.number < c.self.inside.next) c.self.inside.queue.items c.self.invariant.1)
 
 pub overflow_sub-result : goal.overflow_sub-result
 overflow_sub-result c =

@@ -18,4 +18,4 @@ returns-clause-due c =
     let first = c.in_ok-front.field-0.now in
     let is : first ≡ get_or c.self.inside.queue.items 0 first = c.in_ok-front.ensures.lookup in
     subst (λ (ds : List Delay). TakesDue (due_at c.args.moment ds) ds (Some c.in_ok-pop_front.field-0.delay) (in_order_of_put c.pop_front.new.self.items)) (ap (λ (w : Waiting). w.delays) c.self.view_is)
-      (takes-due c.self.inside.queue.items c.pop_front.new.self.items c.in_ok-pop_front.field-0 first c.args.moment c.self.invariant.0 c.in_ok-pop_front.ensures.items is (omega (arith, c.if-branch-moment.false)))
+    (takes-due c.self.inside.queue.items c.pop_front.new.self.items c.in_ok-pop_front.field-0 first c.args.moment c.self.invariant.0 c.in_ok-pop_front.ensures.items is (omega (arith, c.if-branch-moment.false)))
