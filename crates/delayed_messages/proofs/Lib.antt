@@ -2,3 +2,4 @@ mod Orders
 mod Places
 mod Removing
 mod Sorting
+mod Outcomes
