@@ -1,6 +1,6 @@
 -- Delays by the numbers of their puts, and by their dues.
-use Rattle.std.proofs.Common.{◌≡◌, ◌≢◌, ℕ, suc, ◌+◌, ◌<◌, ◌≤◌, nat_lt, nat_le, Bool, true, false, not, cond, if◌then◌else◌, List, [], ◌∷◌, ◌++◌, map, filter, take, drop, get_or, length, count_by, Option, Some, None, refl, sym, ap, subst, ◌∙◌, arith}
-use Rattle.std.proofs.lemmas.Bool.{ltb-true, ltb-false, leb-true, leb-false, lt-ltb, le-ltb, le-leb, lt-leb}
+use Rattle.std.proofs.Common.{◌≡◌, ◌≢◌, ℕ, suc, ◌+◌, ◌<◌, ◌≤◌, nat_lt, nat_le, Bool, true, false, not, cond, if◌then◌else◌, List, [], ◌∷◌, ◌++◌, map, filter, take, drop, get_or, length, count_by, Some, None, refl, sym, ap, subst, ◌∙◌, arith}
+use Rattle.std.proofs.lemmas.Bool.{ltb-true, ltb-false, lt-ltb, le-ltb, le-leb, lt-leb}
 use Rattle.std.proofs.lemmas.List.Filters.{length-filter_both}
 use Rattle.std.proofs.lemmas.List.Sums.{length-filter}
 use Rattle.std.specs.List.{AllByRecursion}
@@ -9,7 +9,7 @@ use Rattle.typed_values.specs.Delays.{sooner, earliest, due_at, if_due}
 use Rattle.delayed_messages.specs.declared.queue.Numbered.{Numbered}
 use Rattle.std.proofs.lemmas.List.{take-append-drop}
 use Rattle.delayed_messages.specs.Waiting.{TakesDue}
-use Rattle.delayed_messages.specs.Queue.{ComesBefore, IsQueue, AreBelow, IsPlace, IsPut, filed, by_number, delay_of, in_order_of_put, room}
+use Rattle.delayed_messages.specs.Queue.{ComesBefore, IsQueue, AreBelow, IsPut, filed, by_number, delay_of, in_order_of_put, room}
 
 -- what holds of all holds of all in another order
 all-filed : (P : Numbered → Type 0) (x : Numbered) (ys : List Numbered) → P x → AllByRecursion P ys → AllByRecursion P (filed x ys)

@@ -1,5 +1,5 @@
 -- What becomes of delays.
-use Rattle.std.proofs.Common.{◌≡◌, ℕ, ◌+◌, ◌<◌, ◌≤◌, nat_le, Bool, true, false, not, ◌&&◌, cond, if◌then◌else◌, List, [], ◌∷◌, ◌++◌, map, filter, count_by, Option, Some, None, true≢false, refl, sym, ap, subst, ◌∙◌, arith}
+use Rattle.std.proofs.Common.{◌≡◌, ℕ, ◌+◌, ◌<◌, ◌≤◌, nat_le, Bool, true, false, not, ◌&&◌, cond, if◌then◌else◌, List, [], ◌∷◌, ◌++◌, map, count_by, Option, Some, None, true≢false, refl, sym, ap, subst, ◌∙◌, arith}
 use Rattle.std.proofs.lemmas.Bool.{leb-true, leb-false}
 use Rattle.std.proofs.lemmas.List.Sums.{sum_by-cons, sum_by-append}
 use Rattle.std.specs.Cmp.{first_so, second_so}
@@ -9,7 +9,7 @@ use Rattle.typed_values.specs.declared.address.Address.{Address}
 use Rattle.typed_values.specs.declared.record.Delay.{Delay}
 use Rattle.typed_values.specs.Sameness.{same_bytes, same_address, same_address-Decides}
 use Rattle.typed_values.specs.Delays.{is_meant, cancelled, sooner, earliest, due_at, if_due}
-use Rattle.delayed_messages.specs.Laws.{CancelsItsOwn, LeastIsDue, NoneIsDue, NoneIsEarly, NoneIsLost, Call, Puts, Cancels, Asks, after, after_all, left_by, with_put, put_by, came, sent, sent_by, Misses, delay_in}
+use Rattle.delayed_messages.specs.Laws.{CancelsItsOwn, LeastIsDue, NoneIsDue, NoneIsEarly, NoneIsLost, Puts, Cancels, Asks, left_by, put_by, came, sent_by, delay_in}
 
 -- ---- cancellations
 

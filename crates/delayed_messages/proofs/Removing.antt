@@ -1,5 +1,5 @@
 -- A list that is gone through, and what does not pass is taken out.
-use Rattle.std.proofs.Common.{◌≡◌, ℕ, zero, suc, ◌+◌, ◌<◌, ◌≤◌, Bool, true, false, cond, List, [], ◌∷◌, ◌++◌, take, drop, filter, length, get_or, remove, Option, Some, None, OnSome, not, refl, sym, ap, ◌∙◌, arith}
+use Rattle.std.proofs.Common.{◌≡◌, ℕ, zero, suc, ◌+◌, ◌<◌, Bool, true, false, cond, List, [], ◌∷◌, ◌++◌, take, drop, filter, length, get_or, remove, Option, Some, None, OnSome, sym, ap, ◌∙◌, arith}
 
 module _ {X : Type 0} (keep : X → Bool) where
   pub goes : (i : ℕ) (xs : List X) (x : X) → i < length xs → x ≡ get_or xs i x → keep x ≡ false → take i xs ++ filter keep (drop i xs) ≡ take i (remove xs i) ++ filter keep (drop i (remove xs i))

@@ -1,5 +1,5 @@
 -- How delays are kept: in the order in which they come due, each with the number of its put.
-use Rattle.std.specs.Prelude.{◌≡◌, ◌≢◌, ℕ, ◌-◌, ◌^◌, ◌<◌, ◌≤◌, nat_lt, nat_le, min, Bool, true, false, if◌then◌else◌, List, [], ◌∷◌, map, take, drop, insert}
+use Rattle.std.specs.Prelude.{◌≡◌, ◌≢◌, ℕ, ◌-◌, ◌^◌, ◌<◌, ◌≤◌, nat_lt, min, if◌then◌else◌, List, [], ◌∷◌, map, take, drop, insert}
 use Rattle.std.specs.List.{AllByRecursion}
 use Rattle.typed_values.specs.declared.record.Delay.{Delay}
 use Rattle.delayed_messages.specs.declared.queue.Numbered.{Numbered}

@@ -1,6 +1,6 @@
 -- How long a value lives.
-use Rattle.std.proofs.Common.{◌≡◌, ℕ, ◌+◌, ◌<◌, ◌≤◌, nat_le, nat_lt, Bool, true, false, not, ◌&&◌, if◌then◌else◌, List, [], ◌∷◌, ◌++◌, map, Option, Some, None, option_and_then, is_some, true≢false, refl, sym, ap, subst, ◌∙◌, arith}
-use Rattle.std.proofs.lemmas.Bool.{ltb-true, ltb-false, leb-true, leb-false, lt-ltb, le-ltb, le-leb, lt-leb}
+use Rattle.std.proofs.Common.{◌≡◌, ℕ, ◌+◌, nat_le, nat_lt, Bool, true, false, not, ◌&&◌, if◌then◌else◌, List, [], ◌∷◌, ◌++◌, map, Option, Some, None, option_and_then, is_some, true≢false, refl, sym, ap, ◌∙◌, arith}
+use Rattle.std.proofs.lemmas.Bool.{ltb-true, ltb-false, leb-true, le-ltb, le-leb, lt-leb}
 use Rattle.std.specs.Cmp.{first_so, second_so}
 use Rattle.std.specs.Cmp.Lexicographic.{bytes_decides}
 use Rattle.typed_values.specs.declared.cell.CellSpec.{CellSpec}
@@ -10,7 +10,7 @@ use Rattle.typed_values.specs.declared.cells.Cell.{Cell}
 use Rattle.typed_values.specs.declared.value.TypedValue.{TypedValue}
 use Rattle.typed_values.specs.Sameness.{same_bytes}
 use Rattle.typed_values.specs.Cells.{found, registered, changed, written, emptied, empty, invoked, value_at, is_named, is_expired, used, lapsed}
-use Rattle.state_cells.specs.Lifetimes.{Call, Registers, Modifies, Deletes, Invokes, after, after_all, spares, all_spare, with_moment, invocations, value_of, value_after, up_to, never_pauses, StaysForGood, LivesFromItsWrite, LivesFromItsUse}
+use Rattle.state_cells.specs.Lifetimes.{Call, Registers, Modifies, Deletes, Invokes, after_all, all_spare, invocations, value_after, up_to, never_pauses}
 use Rattle.state_cells.proofs.Invoking.{invoked-name}
 
 -- ---- the cell of a name behind a call

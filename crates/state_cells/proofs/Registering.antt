@@ -1,5 +1,5 @@
 -- What a registration leaves.
-use Rattle.std.proofs.Common.{◌≡◌, ℕ, suc, ◌+◌, ◌<◌, ◌≤◌, nat_le, Bool, true, false, List, [], ◌∷◌, ◌++◌, map, length, Option, Some, None, Result, Ok, Err, IfOk, OnOk, OnErr, if◌then◌else◌, is_some, refl, sym, ap, subst, ◌∙◌, arith}
+use Rattle.std.proofs.Common.{◌≡◌, ℕ, suc, ◌<◌, nat_le, Bool, true, false, List, [], ◌∷◌, ◌++◌, length, Option, Some, None, Result, Ok, Err, IfOk, OnOk, OnErr, if◌then◌else◌, is_some, refl, sym, ap, subst, ◌∙◌}
 use Rattle.std.proofs.lemmas.Bool.{leb-false}
 use Rattle.std.specs.List.{IsDistinct}
 use Rattle.std.specs.Map.{keys_of, values_of, lookup}
@@ -8,9 +8,9 @@ use Rattle.typed_values.specs.declared.cells.Cell.{Cell}
 use Rattle.typed_values.specs.Sameness.{same_bytes}
 use Rattle.typed_values.specs.Cells.{found, registered, empty}
 use Rattle.state_cells.specs.declared.fault.CellFault.{CellFault}
-use Rattle.state_cells.specs.declared.fault.CellFault.TheVariants.{UnknownName, TypeDiffers, TooMany, TooLarge, OutOfMemory}
+use Rattle.state_cells.specs.declared.fault.CellFault.TheVariants.{TypeDiffers, TooMany}
 use Rattle.state_cells.specs.Answers.{Answers, declared, registering}
-use Rattle.state_cells.specs.Kept.{AreNamed, AreCells, IsAdded, most_cells}
+use Rattle.state_cells.specs.Kept.{IsAdded, most_cells}
 use Rattle.state_cells.proofs.Named.{found-lookup, cells-push, values-push}
 use Rattle.state_cells.proofs.Setting.{Good}
 

@@ -1,12 +1,12 @@
 -- Cells that are gone through one after the other.
-use Rattle.std.proofs.Common.{◌≡◌, ℕ, zero, suc, ◌+◌, ◌<◌, ◌≤◌, Bool, true, false, cond, List, [], ◌∷◌, ◌++◌, map, take, drop, length, get_or, Option, Some, None, refl, sym, ap, subst, ◌∙◌, arith, add-one}
+use Rattle.std.proofs.Common.{◌≡◌, ℕ, zero, suc, ◌+◌, ◌<◌, false, List, [], ◌∷◌, ◌++◌, map, take, drop, length, get_or, None, refl, ap, ◌∙◌, arith, add-one}
 use Rattle.std.specs.Cmp.Lexicographic.{nat_list_eq_equiv}
 use Rattle.std.specs.List.{IsDistinct, AllByRecursion}
-use Rattle.std.specs.Map.{keys_of, values_of, lookup}
+use Rattle.std.specs.Map.{values_of, lookup}
 use Rattle.indexmap.specs.IndexMap.{set_value_at}
 use Rattle.typed_values.specs.declared.cells.Cell.{Cell}
 use Rattle.typed_values.specs.Sameness.{same_bytes}
-use Rattle.state_cells.specs.Kept.{AreNamed, AreCells, after_each, name_of, under_name}
+use Rattle.state_cells.specs.Kept.{AreNamed, after_each, name_of, under_name}
 
 -- the next cell is changed
 module _ (change : Cell → Cell) where

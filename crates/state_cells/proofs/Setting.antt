@@ -1,5 +1,5 @@
 -- What a change of one cell leaves.
-use Rattle.std.proofs.Common.{◌≡◌, ℕ, ◌<◌, ◌≤◌, nat_lt, Bool, true, false, List, length, Option, Some, None, Result, Ok, Err, OnOk, OnErr, IsTrue, if◌then◌else◌, refl, sym, ap, subst, ◌∙◌, arith}
+use Rattle.std.proofs.Common.{◌≡◌, ℕ, nat_lt, Bool, true, false, List, length, Option, Some, None, Result, Ok, Err, OnOk, OnErr, IsTrue, if◌then◌else◌, refl, sym, ap, subst, ◌∙◌}
 use Rattle.std.proofs.lemmas.Bool.{ltb-false}
 use Rattle.std.specs.Cmp.Lexicographic.{bytes_decides}
 use Rattle.std.specs.Map.{values_of, lookup}
@@ -8,7 +8,7 @@ use Rattle.typed_values.specs.declared.value.TypedValue.{TypedValue}
 use Rattle.typed_values.specs.Sameness.{same_bytes}
 use Rattle.typed_values.specs.Cells.{found, changed, written, emptied}
 use Rattle.state_cells.specs.declared.fault.CellFault.{CellFault}
-use Rattle.state_cells.specs.declared.fault.CellFault.TheVariants.{UnknownName, TypeDiffers, TooLarge}
+use Rattle.state_cells.specs.declared.fault.CellFault.TheVariants.{TypeDiffers, TooLarge}
 use Rattle.state_cells.specs.Answers.{taking, clearing}
 use Rattle.state_cells.specs.Kept.{AreNamed, AreCells, IsKept, IsSet, most_bytes}
 use Rattle.state_cells.proofs.Named.{found-lookup, set-changed, set-named, cells-changed, changed-none}

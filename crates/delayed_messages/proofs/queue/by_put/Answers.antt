@@ -1,4 +1,4 @@
-use Rattle.std.proofs.Common.{rules, ◌≡◌, ◌∙◌, ap, sym, subst, IsPermutation}
+use Rattle.std.proofs.Common.{rules, ◌∙◌, ap, sym, subst}
 use Rattle.std.proofs.lemmas.List.Sorted.{IsNonDecreasingBy-from_sort_by_key}
 use Rattle.delayed_messages.specs.declared.queue.Numbered.{Numbered}
 use Rattle.delayed_messages.specs.Queue.{IsQueue, by_number}

@@ -1,4 +1,4 @@
-use Rattle.std.proofs.Common.{◌≡◌, ◌<◌, ◌≤◌, ◌∙◌, not, remove, length, take, drop, filter, ◌++◌, sym, ap, arith, true}
+use Rattle.std.proofs.Common.{◌≡◌, ◌<◌, ◌∙◌, not, remove, length, take, drop, filter, ◌++◌, sym, ap, arith, true}
 use Rattle.std.specs.VecDeque.{deque_len}
 use Rattle.typed_values.specs.Delays.{is_meant}
 use Rattle.delayed_messages.proofs.Orders.{left}

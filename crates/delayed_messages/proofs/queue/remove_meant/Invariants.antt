@@ -1,4 +1,4 @@
-use Rattle.std.proofs.Common.{◌≡◌, ◌≤◌, ◌-◌, ◌++◌, not, filter, take, drop, length}
+use Rattle.std.proofs.Common.{◌≡◌, ◌≤◌, ◌-◌, ◌++◌, filter, take, drop, length}
 use Rattle.std.specs.VecDeque.{deque_len, deque_capacity}
 use Rattle.typed_values.specs.Delays.{is_meant}
 use Rattle.delayed_messages.proofs.Orders.{left}

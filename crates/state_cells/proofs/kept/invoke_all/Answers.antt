@@ -1,10 +1,10 @@
-use Rattle.std.proofs.Common.{◌∙◌, ◌≡◌, ◌<◌, suc, ap, sym, add-one, arith, get_or, length}
+use Rattle.std.proofs.Common.{◌∙◌, ◌≡◌, ◌<◌, ap, sym, add-one, arith, get_or, length}
 use Rattle.std.specs.Map.{values_of}
 use Rattle.std.proofs.lemmas.Option.{get_or_from_slice_get}
 use Rattle.indexmap.specs.IndexMap.{set_value_at}
 use Rattle.indexmap.specs.Layout.{length-set_value_at}
 use Rattle.typed_values.specs.Cells.{invoked}
-use Rattle.state_cells.proofs.Rows.{before, still, each-step}
+use Rattle.state_cells.proofs.Rows.{still, each-step}
 use Rattle.state_cells.proofs.kept.invoke_all.Goals as goal
 
 pub loop-place-preserved : goal.loop-place-preserved

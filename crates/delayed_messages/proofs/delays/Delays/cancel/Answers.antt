@@ -1,8 +1,8 @@
-use Rattle.std.proofs.Common.{◌≡◌, ◌≤◌, ◌<◌, ◌-◌, count_by, filter, length, ◌∙◌, ap, sym, subst, arith}
+use Rattle.std.proofs.Common.{◌≤◌, ◌<◌, count_by, length, ◌∙◌, ap, sym, subst, arith}
 use Rattle.std.specs.VecDeque.{deque_len, deque_capacity}
 use Rattle.typed_values.specs.Delays.{is_meant, cancelled}
 use Rattle.delayed_messages.specs.Waiting.{Waiting}
-use Rattle.delayed_messages.specs.Queue.{IsQueue, AreBelow, in_order_of_put, room}
+use Rattle.delayed_messages.specs.Queue.{IsQueue, AreBelow, in_order_of_put}
 use Rattle.delayed_messages.specs.declared.queue.Numbered.{Numbered}
 use Rattle.delayed_messages.proofs.Orders.{left, all-filter, queue-filter, cancelled-is, count-gone, room-grows}
 use Rattle.delayed_messages.proofs.delays.Delays.cancel.Goals as goal

@@ -1,4 +1,4 @@
-use Rattle.std.proofs.Common.{◌≡◌, ◌<◌, ◌≤◌, length, Some, None, get_or, refl, ◌∙◌, ap, sym, subst, arith, List}
+use Rattle.std.proofs.Common.{◌≡◌, ◌<◌, length, Some, None, get_or, refl, ap, subst, arith, List}
 use Rattle.typed_values.specs.declared.record.Delay.{Delay}
 use Rattle.typed_values.specs.Delays.{due_at}
 use Rattle.delayed_messages.specs.Waiting.{Waiting, TakesDue}

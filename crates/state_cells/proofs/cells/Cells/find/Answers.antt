@@ -1,4 +1,4 @@
-use Rattle.std.proofs.Common.{◌∙◌, ap, sym}
+use Rattle.std.proofs.Common.{◌∙◌, ap}
 use Rattle.typed_values.specs.Cells.{found}
 use Rattle.state_cells.proofs.Named.{found-lookup}
 use Rattle.state_cells.proofs.cells.Cells.find.Goals as goal

@@ -1,4 +1,4 @@
-use Rattle.std.proofs.Common.{◌≡◌, ◌∙◌, ap, sym, map, subst}
+use Rattle.std.proofs.Common.{◌∙◌, ap, sym, map, subst}
 use Rattle.std.specs.Map.{values_of}
 use Rattle.typed_values.specs.Cells.{invoked}
 use Rattle.state_cells.proofs.Named.{cells-each, values-each}

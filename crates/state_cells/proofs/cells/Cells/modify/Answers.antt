@@ -1,6 +1,5 @@
-use Rattle.std.proofs.Common.{◌∙◌, ap, sym, subst, OnOk, ◌≡◌}
-use Rattle.std.specs.Map.{values_of}
-use Rattle.typed_values.specs.Cells.{changed, written, found}
+use Rattle.std.proofs.Common.{◌∙◌, ap}
+use Rattle.typed_values.specs.Cells.{found}
 use Rattle.state_cells.specs.Answers.{taking}
 use Rattle.state_cells.proofs.Named.{found-lookup}
 use Rattle.state_cells.proofs.Setting.{written-good, written-values}

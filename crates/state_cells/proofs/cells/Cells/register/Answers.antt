@@ -1,7 +1,3 @@
-use Rattle.std.proofs.Common.{◌≡◌, ◌∙◌, ap, sym, subst, rules, length, OnOk}
-use Rattle.std.specs.Map.{values_of}
-use Rattle.typed_values.specs.Cells.{found, registered}
-use Rattle.state_cells.specs.Answers.{Answers, declared}
 use Rattle.state_cells.proofs.Registering.{added-good, answers-same, added-values}
 use Rattle.state_cells.proofs.cells.Cells.register.Goals as goal
 
