@@ -6,7 +6,7 @@ use std::io;
 /// Why the program gave no line.
 #[derive(Clone, Copy, Debug, PartialEq, Eq)]
 pub(crate) enum Failure {
-    /// The words are not `letters N R`, `request N R` or `answer N R`.
+    /// The words are not a work and two numbers.
     Words,
     /// A message that was encoded was not decoded.
     Fault,
@@ -30,7 +30,7 @@ impl Failure {
     /// What is told of it.
     pub(crate) fn text(self) -> &'static str {
         match self {
-            Failure::Words => "the words are: letters|request|answer NUMBER ROUNDS",
+            Failure::Words => "the words are: letters|request|answer|cells|delays NUMBER ROUNDS",
             Failure::Fault => "a message was not decoded",
             Failure::OutOfMemory => "out of memory",
             Failure::System => "the words could not be read, or the line not be written",

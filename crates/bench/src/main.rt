@@ -1,4 +1,5 @@
-//! The program `bench`: makes messages, and decodes and encodes them again and again. `bench/run` times it.
+//! The program `bench`: decodes and encodes messages again and again, writes cells, and puts, cancels and sends delays.
+//! `bench/run` times it.
 #![tactic(auto)]
 
 mod answers;
@@ -6,7 +7,9 @@ mod failure;
 mod letters;
 mod parts;
 mod requests;
+mod state;
 mod tally;
+mod waiting;
 mod words;
 
 use failure::Failure;
@@ -48,5 +51,7 @@ fn done(rt: &HostRuntime, work: Work, count: u32, rounds: u32) -> Result<Tally, 
         Work::Letters => letters::work(alloc, count, rounds),
         Work::Request => requests::work(alloc, count, rounds),
         Work::Answer => answers::work(alloc, count, rounds),
+        Work::Cells => state::work(alloc, count, rounds),
+        Work::Delays => waiting::work(alloc, count, rounds),
     }
 }

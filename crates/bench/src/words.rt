@@ -2,7 +2,7 @@
 use crate::failure::Failure;
 use std::env;
 
-/// What is decoded and encoded.
+/// What is done again and again.
 #[derive(Clone, Copy, Debug, PartialEq, Eq)]
 pub(crate) enum Work {
     /// Letters, one by one.
@@ -11,6 +11,10 @@ pub(crate) enum Work {
     Request,
     /// One answer with many messages for functions.
     Answer,
+    /// Writes of cells.
+    Cells,
+    /// Delays that are put, cancelled and sent.
+    Delays,
 }
 
 impl Work {
@@ -20,6 +24,8 @@ impl Work {
             Work::Letters => "letters",
             Work::Request => "request",
             Work::Answer => "answer",
+            Work::Cells => "cells",
+            Work::Delays => "delays",
         }
     }
 }
@@ -28,9 +34,9 @@ impl Work {
 #[derive(Clone, Copy, Debug, PartialEq, Eq)]
 pub(crate) struct Task {
     pub(crate) work: Work,
-    /// How many letters or messages there are.
+    /// How many letters, messages, writes or delays there are.
     pub(crate) count: u32,
-    /// How often all of them are decoded and encoded.
+    /// How often all of them are gone through.
     pub(crate) rounds: u32,
 }
 
@@ -56,6 +62,8 @@ fn work_of(word: &str) -> Result<Work, Failure> {
         "letters" => Ok(Work::Letters),
         "request" => Ok(Work::Request),
         "answer" => Ok(Work::Answer),
+        "cells" => Ok(Work::Cells),
+        "delays" => Ok(Work::Delays),
         _ => Err(Failure::Words),
     }
 }
