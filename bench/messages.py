@@ -1,4 +1,4 @@
-"""Times the decoding and encoding of messages by `bench`, and the same work by libprotobuf. Called by bench/run.
+"""Times the works of `bench` (messages, cells, delays), and those of messages by libprotobuf. Called by bench/run.
 
 Its words: the program `bench`, the number of runs of which the best counts, and the peer program, if there is one."""
 import os
@@ -8,10 +8,12 @@ import tempfile
 from timed import timed
 
 MOST_RATIO = 11
-# Each work with the smaller number of its letters or messages, and the rounds of that number. Ten times the number has
+# Each work with the smaller number of its letters, messages, writes or delays, and the rounds of that number. Ten times the number has
 # a tenth of the rounds, so that both runs take about as long, and each round's time is known as well.
-WORKS = [("letters", 10000, 20), ("request", 1000, 200), ("answer", 1000, 200)]
+WORKS = [("letters", 10000, 20), ("request", 1000, 200), ("answer", 1000, 200), ("cells", 10000, 100), ("delays", 1000, 50)]
 PEER_WORKS = {"request", "answer"}
+# Those whose time grows with their number alone. Delays are not among them: a cancellation looks at each that waits.
+BOUND_WORKS = {"letters", "cells"}
 
 
 def line_of(path):
@@ -47,7 +49,7 @@ def compared(programs, work, count, rounds, runs, path):
 def ratios(work, few, many):
     """Prints how much longer ten times as many take."""
     text = f"{work}: ratio {many[0] / few[0]:.2f} for ten times as many"
-    if work == "letters":
+    if work in BOUND_WORKS:
         text += f" (at most {MOST_RATIO} is wanted)"
     if len(few) > 1:
         text += f"; libprotobuf {many[1] / few[1]:.2f}"

@@ -7,7 +7,7 @@ use yaml_block::YamlFault;
 /// Why the program gave no line.
 #[derive(Clone, Copy, Debug, PartialEq, Eq)]
 pub(crate) enum Failure {
-    /// The words are not `letters N R`, `request N R`, `answer N R` or `module N R`.
+    /// The words are not a work and two numbers.
     Words,
     /// A message that was encoded was not decoded, or the module file is refused.
     Fault,
@@ -31,7 +31,9 @@ impl Failure {
     /// What is told of it.
     pub(crate) fn text(self) -> &'static str {
         match self {
-            Failure::Words => "the words are: letters|request|answer|module NUMBER ROUNDS",
+            Failure::Words => {
+                "the words are: letters|request|answer|cells|delays|module NUMBER ROUNDS"
+            }
             Failure::Fault => "a message was not decoded, or the module file is refused",
             Failure::OutOfMemory => "out of memory",
             Failure::System => "the words could not be read, or the line not be written",

@@ -1,5 +1,5 @@
-//! The program `bench`: makes messages, and decodes and encodes them again and again, or reads the module file on standard
-//! input again and again. `bench/run` times it.
+//! The program `bench`: decodes and encodes messages again and again, writes cells, puts, cancels and sends delays, or reads
+//! the module file on standard input. `bench/run` times it.
 #![tactic(auto)]
 
 mod answers;
@@ -8,7 +8,9 @@ mod letters;
 mod modules;
 mod parts;
 mod requests;
+mod state;
 mod tally;
+mod waiting;
 mod words;
 
 use failure::Failure;
@@ -51,5 +53,7 @@ fn done(rt: &HostRuntime, work: Work, count: u32, rounds: u32) -> Result<Tally, 
         Work::Request => requests::work(alloc, count, rounds),
         Work::Answer => answers::work(alloc, count, rounds),
         Work::Module => modules::work(rt, count, rounds),
+        Work::Cells => state::work(alloc, count, rounds),
+        Work::Delays => waiting::work(alloc, count, rounds),
     }
 }

@@ -2,7 +2,7 @@
 use crate::failure::Failure;
 use std::env;
 
-/// What is decoded and encoded, or read.
+/// What is done again and again.
 #[derive(Clone, Copy, Debug, PartialEq, Eq)]
 pub(crate) enum Work {
     /// Letters, one by one.
@@ -13,6 +13,10 @@ pub(crate) enum Work {
     Answer,
     /// The module file on standard input.
     Module,
+    /// Writes of cells.
+    Cells,
+    /// Delays that are put, cancelled and sent.
+    Delays,
 }
 
 impl Work {
@@ -23,6 +27,8 @@ impl Work {
             Work::Request => "request",
             Work::Answer => "answer",
             Work::Module => "module",
+            Work::Cells => "cells",
+            Work::Delays => "delays",
         }
     }
 }
@@ -31,9 +37,9 @@ impl Work {
 #[derive(Clone, Copy, Debug, PartialEq, Eq)]
 pub(crate) struct Task {
     pub(crate) work: Work,
-    /// How many letters, messages or documents there are.
+    /// How many letters, messages, writes, delays or documents there are.
     pub(crate) count: u32,
-    /// How often all of them are decoded and encoded, or read.
+    /// How often all of them are gone through.
     pub(crate) rounds: u32,
 }
 
@@ -60,6 +66,8 @@ fn work_of(word: &str) -> Result<Work, Failure> {
         "request" => Ok(Work::Request),
         "answer" => Ok(Work::Answer),
         "module" => Ok(Work::Module),
+        "cells" => Ok(Work::Cells),
+        "delays" => Ok(Work::Delays),
         _ => Err(Failure::Words),
     }
 }

@@ -9,9 +9,8 @@ use Rattle.typed_values.specs.declared.value.TypedValue.{TypedValue}
 use Rattle.typed_values.specs.declared.letter.Sender.{Sender}
 use Rattle.typed_values.specs.declared.letter.Sender.TheVariants.{Function}
 use Rattle.typed_values.specs.declared.letter.Letter.{Letter}
-use Rattle.typed_values.specs.declared.cell.CellSpec.{CellSpec}
-use Rattle.typed_values.specs.declared.cell.Expiry.{Expiry}
-use Rattle.typed_values.specs.declared.cell.Expiry.TheVariants.{Never, AfterWrite, AfterInvoke}
+use Rattle.typed_values.specs.declared.cells.Cell.{Cell}
+use Rattle.typed_values.specs.Cells.{value_at}
 use Rattle.typed_values.specs.declared.record.Delay.{Delay}
 use Rattle.typed_values.specs.Sameness.{same_name, same_address, same_sender}
 use Rattle.sf_outside.specs.declared.ingress.IngressRecord.{IngressRecord}
@@ -37,12 +36,6 @@ use Rattle.run_record.specs.declared.entry.Reply.{Reply}
 use Rattle.run_record.specs.Routing.{splits_in, endpoint_of, letters_of}
 
 -- ---- the state
-
--- a registered cell: its value, and the moment from which the value's time counts
-pub record Cell : Type 0 where
-  pub spec : CellSpec
-  pub value : Option TypedValue
-  pub stamp : ℕ
 
 pub record State : Type 0 where
   -- of each split, how many records were taken
@@ -133,17 +126,9 @@ unpicked address picks mail = λ sender target.
     then drop (count_by (same_sender sender) picks) (mail sender target)
     else mail sender target
 
--- a value of a cell that expires is gone so long after its stamp
-abbrev pub lapsed : Expiry → ℕ → ℕ → ℕ → Bool
-lapsed Never millis stamp moment = false
-lapsed AfterWrite millis stamp moment = nat_le (stamp + millis) moment
-lapsed AfterInvoke millis stamp moment = nat_le (stamp + millis) moment
-
-abbrev pub is_expired : ℕ → Cell → Bool
-is_expired moment cell = lapsed cell.spec.mode cell.spec.millis cell.stamp moment
-
+-- a cell as a request at a moment carries it
 abbrev pub shipped : ℕ → Cell → PersistedValue
-shipped moment cell = record { state_name = cell.spec.name; state_value = if is_expired moment cell then None else cell.value }
+shipped moment cell = record { state_name = cell.spec.name; state_value = value_at moment cell }
 
 -- the batch for an address: all its cells, and the picked letters
 abbrev pub batch_of : Address → List PersistedValue → List BatchInvocation → ToFunction

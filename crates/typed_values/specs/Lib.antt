@@ -7,3 +7,5 @@ pub mod Stored
 pub mod Fields
 pub mod Spelling
 pub mod Wrappers
+pub mod Cells
+pub mod Delays

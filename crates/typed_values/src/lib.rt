@@ -3,6 +3,8 @@
 
 mod address;
 mod cell;
+mod cells;
+mod copies;
 mod escape;
 mod field_laws;
 mod letter;
@@ -19,6 +21,7 @@ mod writing;
 
 pub use address::Address;
 pub use cell::{CellSpec, Expiry};
+pub use cells::{Cell, Shipped};
 pub use escape::{
     put_address_text, put_escaped, put_hex, put_name_parts, put_name_text, put_value_text,
 };

@@ -1,0 +1,5 @@
+mod Orders
+mod Places
+mod Removing
+mod Sorting
+mod Outcomes

@@ -1,0 +1,6 @@
+mod Named
+mod Setting
+mod Rows
+mod Invoking
+mod Registering
+mod Living
