@@ -25,20 +25,20 @@ after links at = (slice_index_or links at no_link).after
 abbrev pub before : List Link → ℕ → ℕ
 before links at = (slice_index_or links at no_link).before
 
--- the numbers from a link on, down to link 0
-abbrev pub numbers_from : ℕ → List Link → ℕ → List ℕ
-numbers_from zero links at = []
-numbers_from (suc more) links zero = []
-numbers_from (suc more) links (suc n) = n ∷ numbers_from more links (after links (suc n))
+-- the numbers behind a link, down to link 0
+abbrev pub numbers_from : ℕ → (ℕ → ℕ) → ℕ → List ℕ
+numbers_from zero next at = []
+numbers_from (suc more) next zero = []
+numbers_from (suc more) next (suc n) = n ∷ numbers_from more next (next (suc n))
 
 -- there is one link more than numbers, so the walk is long enough
 abbrev pub in_line : List Link → InLine
-in_line links = record { size = length links - 1; numbers = numbers_from (length links) links (after links 0) }
+in_line links = record { size = length links - 1; numbers = numbers_from (length links) (after links) (after links 0) }
 
 -- behind the link `at` stand these numbers, and no more; each link names both of its neighbours
-abbrev pub Linked : List Link → ℕ → List ℕ → Type 0
-Linked links at [] = (after links at ≡ 0) × (before links 0 ≡ at)
-Linked links at (n ∷ ns) = (after links at ≡ suc n) × (before links (suc n) ≡ at) × (n + 1 < length links) × Linked links (suc n) ns
+abbrev pub Linked : (ℕ → ℕ) → (ℕ → ℕ) → ℕ → ℕ → List ℕ → Type 0
+Linked next last links at [] = (next at ≡ 0) × (last 0 ≡ at)
+Linked next last links at (n ∷ ns) = (next at ≡ suc n) × (last (suc n) ≡ at) × (n + 1 < links) × Linked next last links (suc n) ns
 
 -- no number stands twice
 abbrev pub AreApart : List ℕ → Type 0
@@ -47,5 +47,5 @@ AreApart (n ∷ ns) = (stands n ns ≡ false) × AreApart ns
 
 pub record IsLinked (links : List Link) : Type 0 where
   pub ended : 0 < length links
-  pub linked : Linked links 0 (in_line links).numbers
+  pub linked : Linked (after links) (before links) (length links) 0 (in_line links).numbers
   pub apart : AreApart (in_line links).numbers

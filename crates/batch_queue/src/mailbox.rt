@@ -85,10 +85,10 @@ impl MailBox {
     pub(crate) fn take(&mut self)
         ensures { self.new ≡ record self.old { letters = drop self.old.in_flight self.old.letters; in_flight = 0 } }
     {
-        for _ in 0..self.in_flight {
+        while self.in_flight > 0 {
             let _gone = self.letters.pop_front();
+            self.in_flight -= 1;
         }
-        self.in_flight = 0;
     }
 
     /// The longest front of the letters within the limits, as a batch, which is a copy of them.

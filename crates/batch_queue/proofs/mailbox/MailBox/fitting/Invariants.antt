@@ -1,0 +1,8 @@
+use Rattle.std.proofs.Common.{◌≡◌, ◌↔◌, ◌+◌, ◌∷◌, ◌++◌, ◌<◌, ◌≤◌, [], ℕ, drop, take, length, IsTrue, IfOk, IfErr, OnOk, OnErr, ◌-◌, ◌*◌}
+use Rattle.batch_queue.specs.Boxes.{Waiting}
+use Rattle.batch_queue.specs.Post.{waits}
+use Rattle.batch_queue.specs.Batches.{request_size, IsWithin, IsBatch, IsFaultOf}
+use Rattle.batch_queue.proofs.mailbox.MailBox.fitting.Given as goal
+
+abbrev pub invariant-loop-count : goal.invariant-loop-count
+invariant-loop-count l = ?
