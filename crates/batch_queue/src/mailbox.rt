@@ -4,7 +4,7 @@ ghost use Rattle.batch_queue.specs.Boxes.{Waiting};
 ghost use Rattle.batch_queue.specs.Post.{waits};
 ghost use Rattle.batch_queue.specs.Batches.{request_size, IsWithin, IsBatch, IsFaultOf};
 
-use crate::sizes::with_letter;
+use crate::sizes::{told_size, with_letter};
 use crate::{BatchFault, Limits};
 use proto_wire::{List, Mem, TryClone};
 use request_reply::Batch;
@@ -104,7 +104,7 @@ impl MailBox {
         ensures letters { IfOk result (λ batch. IsBatch limits.now self.now.letters batch.letters) }
         ensures err { IfErr result (IsFaultOf limits.now self.now.letters) }
     {
-        let count = self.fitting(limits);
+        let count = self.fitting(*limits);
         if count == 0 {
             return Err(self.too_large(limits));
         }
@@ -115,11 +115,12 @@ impl MailBox {
     }
 
     /// How many letters the longest front within the limits has.
-    fn fitting(&self, limits: &Limits) -> usize
+    fn fitting(&self, limits: Limits) -> usize
         ensures within { result ≤ length self.now.letters }
-        ensures fits { 0 < result → IsWithin limits.now (take result self.now.letters) }
-        ensures longest { (more : ℕ) → result < more → more ≤ length self.now.letters → ¬ (IsWithin limits.now (take more self.now.letters)) }
+        ensures fits { 0 < result → IsWithin limits (take result self.now.letters) }
+        ensures longest { (more : ℕ) → result < more → more ≤ length self.now.letters → ¬ (IsWithin limits (take more self.now.letters)) }
     {
+        let max_bytes = limits.max_bytes;
         let mut records = limits.head_bytes;
         for count in 0..limits.max_letters as usize {
             let Some(letter) = self.letters.get(count) else {
@@ -128,7 +129,7 @@ impl MailBox {
             let Some(size) = with_letter(records, letter) else {
                 return count;
             };
-            if size.message > limits.max_bytes {
+            if size.message > max_bytes {
                 return count;
             }
             records = size.records;
@@ -138,15 +139,13 @@ impl MailBox {
 
     /// What is told of a first letter whose request passes the limit.
     fn too_large(&self, limits: &Limits) -> BatchFault
-        requires { limits.now.max_bytes < request_size limits.now.head_bytes (take 1 self.now.letters) }
+        requires some { 0 < length self.now.letters }
+        requires passes { limits.now.max_bytes < request_size limits.now.head_bytes (take 1 self.now.letters) }
         ensures { IsFaultOf limits.now self.now.letters result }
     {
         let size = match self.letters.front() {
-            Some(letter) => with_letter(limits.head_bytes, letter).map_or(
-                u64::MAX,
-                |size| size.message,
-            ),
-            None => limits.head_bytes,
+            Some(letter) => told_size(limits.head_bytes, letter),
+            None => 0,
         };
         BatchFault::TooLarge {
             size,
@@ -154,14 +153,17 @@ impl MailBox {
         }
     }
 
-    /// A copy of so many letters from the first on.
+    /// A copy of so many letters from the first on, or of all where there are fewer.
     fn front(&self, alloc: Global, count: usize) -> Mem<List<Letter>>
         ensures { IfOk result (λ copy. copy ≡ take count self.now.letters) }
     {
-        let mut copy = Vec::with_capacity(alloc, count)?;
-        for letter in self.letters.iter().take(count) {
+        let mut copy = List::new(alloc);
+        for index in 0..count {
+            let Some(letter) = self.letters.get(index) else {
+                return Ok(copy);
+            };
             copy.push(letter.try_clone(alloc)?)?;
         }
-        Ok(List::of(copy))
+        Ok(copy)
     }
 }

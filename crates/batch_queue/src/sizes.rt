@@ -1,6 +1,7 @@
 //! How long the request of a batch is.
 ghost use Rattle.std.specs.Prelude.{◌≡◌, ◌+◌, ◌^◌, ◌≤◌, length, MatchOption};
 ghost use Rattle.request_reply.specs.Letters.{letter_record};
+ghost use Rattle.proto_wire.specs.Message.{capped};
 ghost use Rattle.batch_queue.specs.Batches.{enclosed};
 
 use proto_wire::varint_size;
@@ -28,4 +29,14 @@ pub(crate) fn with_letter(records: u64, letter: &Letter) -> Option<Size>
     let records = records.checked_add(size_letter(letter))?;
     let message = records.checked_add(varint_size(REQUEST_TAG) + varint_size(records))?;
     Some(Size { records, message })
+}
+
+/// How long that message is, or `u64::MAX` where it is longer.
+pub(crate) fn told_size(records: u64, letter: &Letter) -> u64
+    ensures { result ≡ capped (enclosed (records + length (letter_record letter.now))) }
+{
+    match with_letter(records, letter) {
+        Some(size) => size.message,
+        None => u64::MAX,
+    }
 }

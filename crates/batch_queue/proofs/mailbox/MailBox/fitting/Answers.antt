@@ -1,46 +1,33 @@
-use Rattle.std.proofs.Common.{rules, ◌≡◌, ◌↔◌, ◌+◌, ◌∷◌, ◌++◌, ◌<◌, ◌≤◌, [], ℕ, drop, take, length, IsTrue, IfOk, IfErr, OnOk, OnErr, ◌-◌, ◌*◌, ◌/◌, ◌%◌, Bool, true, false, nat_eq, nat_lt, List, slice_index_or, slice_set, bit_and, bit_or, Fits, w8, w32, w64, Bor, MutBor}
+use Rattle.std.proofs.Common.{◌≡◌, ◌∙◌, sym, ap, ◌+◌, ◌<◌, ◌≤◌, ◌^◌, take, length, arith, ℕ, get_or, refl, min}
+use Rattle.std.proofs.lemmas.List.{length-take-le}
+use Rattle.request_reply.specs.Letters.{letter_record}
 use Rattle.batch_queue.specs.Boxes.{Waiting}
-use Rattle.batch_queue.specs.Post.{waits}
-use Rattle.batch_queue.specs.Batches.{request_size, IsWithin, IsBatch, IsFaultOf}
+use Rattle.batch_queue.specs.Batches.{enclosed, records_size, request_size, IsWithin}
+use Rattle.batch_queue.proofs.Sizing.{too_long}
 use Rattle.batch_queue.proofs.mailbox.MailBox.fitting.Goals as goal
 
--- src/mailbox.rt:124:9
-pub loop-count-init : goal.loop-count-init
-loop-count-init c = ?
-
--- src/mailbox.rt:126:17
 pub returns-in_default-clause-within : goal.returns-in_default-clause-within
-returns-in_default-clause-within c = ?
+returns-in_default-clause-within c = c.loop-count.invariant.0
 
--- src/mailbox.rt:126:17
 pub returns-in_default-clause-fits : goal.returns-in_default-clause-fits
-returns-in_default-clause-fits c = ?
+returns-in_default-clause-fits c = λ some. record {
+  count = (let e = length-take-le c.loop-count.count c.args.self.now.letters c.loop-count.invariant.0 in omega (arith, e, c.loop-count.auto.count-end));
+  bytes = c.loop-count.invariant.2 some;
+}
 
--- src/mailbox.rt:129:17
-pub returns-in_default-with_letter-clause-fits : goal.returns-in_default-with_letter-clause-fits
-returns-in_default-with_letter-clause-fits c = ?
+pub returns-in_default-with_letter-clause-longest : goal.returns-in_default-with_letter-clause-longest
+returns-in_default-with_letter-clause-longest c = λ more h most within.
+    let long = c.in_default-with_letter.ensures in
+    let count = c.loop-count.count in
+    let letter = c.in-Some.letter.now in
+    let read : letter ≡ get_or c.args.self.now.letters count letter = c.in-Some.ensures.lookup ∙ ap (λ (w : Waiting). get_or w.letters count letter) c.self.view_is in
+    too_long c.args.limits c.args.self.now.letters count more letter c.loop-count.records read (omega (arith, h, most)) c.loop-count.invariant.1 (omega (arith, long)) h within
 
--- src/mailbox.rt:129:17
-pub returns-in_default-with_letter-clause-longest :
-    goal.returns-in_default-with_letter-clause-longest
-returns-in_default-with_letter-clause-longest c = ?
-
--- src/mailbox.rt:132:17
-pub returns-then-size-limits-clause-fits : goal.returns-then-size-limits-clause-fits
-returns-then-size-limits-clause-fits c = ?
-
--- src/mailbox.rt:132:17
-pub returns-then-size-limits-clause-longest : goal.returns-then-size-limits-clause-longest
-returns-then-size-limits-clause-longest c = ?
-
--- src/mailbox.rt:124:9
-pub loop-count-preserved : goal.loop-count-preserved
-loop-count-preserved c = ?
-
--- src/mailbox.rt:118:5
-pub returns-clause-within : goal.returns-clause-within
-returns-clause-within c = ?
-
--- src/mailbox.rt:118:5
-pub returns-clause-fits : goal.returns-clause-fits
-returns-clause-fits c = ?
+pub returns-then-size-max_bytes-clause-longest : goal.returns-then-size-max_bytes-clause-longest
+returns-then-size-max_bytes-clause-longest c = λ more h most within.
+    let count = c.loop-count.count in
+    let letter = c.in-Some.letter.now in
+    let read : letter ≡ get_or c.args.self.now.letters count letter = c.in-Some.ensures.lookup ∙ ap (λ (w : Waiting). get_or w.letters count letter) c.self.view_is in
+    let passes = c.if-size-max_bytes.true in
+    let is : c.in-Some-with_letter.size.message ≡ enclosed (c.loop-count.records + length (letter_record letter)) = c.in-Some-with_letter.ensures.1 ∙ ap enclosed c.in-Some-with_letter.ensures.0 in
+    too_long c.args.limits c.args.self.now.letters count more letter c.loop-count.records read (omega (arith, h, most)) c.loop-count.invariant.1 (omega (arith, passes, is)) h within
