@@ -1,3 +1,5 @@
 pub mod Linking
 pub mod Relinking
 pub mod Sizing
+pub mod Addresses
+pub mod Keeping

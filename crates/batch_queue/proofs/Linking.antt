@@ -31,7 +31,7 @@ in_tail m n ns h = or_right (nat_eq m n) (stands m ns) h
 pub differ : (m n : ℕ) (ns : List ℕ) → stands m ns ≡ true → stands n ns ≡ false → m ≡ n → ⊥
 differ m n ns h none e = true≢false (sym (subst (λ x. stands x ns ≡ true) e h) ∙ none)
 
-without_none : (n : ℕ) (ns : List ℕ) → stands n ns ≡ false → without n ns ≡ ns
+pub without_none : (n : ℕ) (ns : List ℕ) → stands n ns ≡ false → without n ns ≡ ns
 without_none n [] none = refl
 without_none n (m ∷ ns) none =
     let parts = or_none (nat_eq n m) (stands n ns) none in

@@ -206,9 +206,13 @@ fn line_up(line: &mut Line, kept: &MailBox, was_ready: bool)
           lined_up nat_eq kept.now.number (waits kept.now.letters kept.now.in_flight) line.old.numbers;
     } }
 {
-    match (was_ready, kept.is_ready()) {
-        (false, true) => line.join(kept.number()),
-        (true, false) => line.leave(kept.number()),
-        (true, true) | (false, false) => {}
+    let is_ready = kept.is_ready();
+    if is_ready == was_ready {
+        return;
+    }
+    if is_ready {
+        line.join(kept.number());
+    } else {
+        line.leave(kept.number());
     }
 }

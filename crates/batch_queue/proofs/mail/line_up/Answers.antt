@@ -1,12 +1,17 @@
-use Rattle.std.proofs.Common.{rules, ◌≡◌, ◌↔◌, ◌<◌, ◌≤◌, true, false, length, slice_get, IsTrue, IsNone, IfOk, IfErr, IfSome, OnOk, OnErr, MatchOption, nat_eq, ℕ, ◌+◌, ◌-◌, ◌*◌, ◌/◌, ◌%◌, Bool, nat_lt, List, [], ◌∷◌, ◌++◌, slice_index_or, slice_set, bit_and, bit_or, Fits, w8, w32, w64, Bor, MutBor}
-use Rattle.std.specs.Option.{option_copied}
-use Rattle.typed_values.specs.declared.address.Address.{Address}
-use Rattle.batch_queue.specs.Lines.{stands}
-use Rattle.batch_queue.specs.Post.{no_post, put, opened, taken, returned, is_ready, waits, lined_up, IsAll}
-use Rattle.batch_queue.specs.Batches.{IsBatch, IsFaultOf}
-use Rattle.batch_queue.specs.Kept.{Kept, post_of, box_of}
+use Rattle.std.proofs.Common.{◌≡◌, ◌∙◌, sym, refl, Bool, true, false}
+use mathlib.Core.Bool.{beq}
+use Rattle.batch_queue.specs.Post.{waits}
+use Rattle.batch_queue.proofs.Keeping.{lined_same, post_after}
 use Rattle.batch_queue.proofs.mail.line_up.Goals as goal
 
--- src/mail.rt:201:1
-pub returns-else-this : goal.returns-else-this
-returns-else-this c = ?
+alike : (a b : Bool) → beq a b ≡ true → a ≡ b
+alike true true e = refl
+alike false false e = refl
+alike true false e = absurd cc
+alike false true e = absurd cc
+
+pub returns-then-is_ready-was_ready : goal.returns-then-is_ready-was_ready
+returns-then-is_ready-was_ready c =
+    let same = lined_same c.args.kept.now.number c.args.line.now.numbers (waits c.args.kept.now.letters c.args.kept.now.in_flight)
+      (c.requires.before ∙ sym (alike c.is_ready-is_ready.result c.args.was_ready c.if-is_ready-was_ready.true) ∙ c.is_ready-is_ready.ensures) in
+    (λ i. record { size = c.args.line.now.size; numbers = sym same i })
