@@ -1,20 +1,21 @@
 -- What a change of one box makes of all that is kept.
-use Rattle.std.proofs.Common.{◌≡◌, ◌∙◌, sym, ap, subst, refl, ℕ, zero, suc, ◌+◌, ◌<◌, ◌≤◌, Bool, true, false, cond, true≢false, List, [], ◌∷◌, ◌++◌, length, map, filter, drop, get_or, Option, Some, None, arith}
+use Rattle.std.proofs.Common.{◌≡◌, ◌∙◌, sym, ap, subst, refl, ℕ, zero, suc, ◌+◌, ◌-◌, ◌<◌, ◌≤◌, Bool, true, false, cond, true≢false, List, [], ◌∷◌, ◌++◌, length, map, filter, drop, get_or, Option, Some, None, arith, length-append}
 use Rattle.std.specs.Prelude.{nat_eq, not, ◌||◌, ◌&&◌, ◌==◌}
 use Rattle.std.specs.List.{list_any, list_all}
 use Rattle.std.specs.Option.{option_map, option_map_or}
 use Rattle.std.specs.Cmp.{unsigned_Decides}
-use Rattle.std.proofs.lemmas.List.{map_push}
+use Rattle.std.proofs.lemmas.List.{map_push, get_or_append_left, get_or-append_right}
 use Rattle.std.proofs.lemmas.List.Folds.{list_any-append}
 use Rattle.typed_values.specs.declared.address.Address.{Address}
 use Rattle.typed_values.specs.declared.letter.Letter.{Letter}
 use Rattle.typed_values.specs.Sameness.{same_address, same_address-Decides}
 use Rattle.std.specs.BTreeMap.{is_at}
+use Rattle.typed_values.specs.Tables.{empty_address}
 use Rattle.batch_queue.specs.Boxes.{Waiting}
 use Rattle.batch_queue.specs.Lines.{InLine, stands, without}
 use Rattle.batch_queue.specs.Post.{Post, waits, lined_up, with_letters}
 use Rattle.batch_queue.specs.Kept.{Kept, address_order, box_of, name_of, post_of, IsBoxOf, IsKept}
-use Rattle.batch_queue.proofs.Linking.{at_head, differ, without_none}
+use Rattle.batch_queue.proofs.Linking.{at_head, in_tail, without_none}
 use Rattle.batch_queue.proofs.Addresses.{address_test, same_itself}
 
 by_test : {P : Type 0} (t : Bool) → (t ≡ true → P) → (t ≡ false → P) → P
@@ -238,3 +239,111 @@ all_pushed p (x ∷ xs) l h e = split (p x) h (all_pushed p xs l)
     split : (t : Bool) → (t && list_all p xs) ≡ true → (list_all p xs ≡ true → p l ≡ true → list_all p (xs ++ l ∷ []) ≡ true) → (t && list_all p (xs ++ l ∷ [])) ≡ true
     split true k more = more k e
     split false k more = absurd cc
+
+-- ---- what changes no letter
+
+-- the same boxes, and more room at most
+pub same_boxes : (kept after : Kept) → IsKept kept → ((b : Address) → box_of after b ≡ box_of kept b) → after.names ≡ kept.names → after.line.numbers ≡ kept.line.numbers → kept.line.size ≤ after.line.size → IsKept after × (post_of after ≡ post_of kept)
+same_boxes kept after is boxes names line size = (
+  record {
+    boxed = λ b other found.
+      let P : List Address → List ℕ → Type 0 = λ ns l. IsBoxOf ns l b other in
+      subst (λ ns. P ns after.line.numbers) (sym names) (subst (P kept.names) (sym line) (is.boxed b other (sym (boxes b) ∙ found)));
+    held = λ n h. ap (λ x. option_map (λ (b : Waiting). b.number) (box_of after x)) (ap (λ (ns : List Address). name_of ns n) names)
+      ∙ ap (option_map (λ (b : Waiting). b.number)) (boxes (name_of kept.names n)) ∙ is.held n (sym (ap (stands n) line) ∙ h);
+    roomy = (let k = is.roomy in let l : length after.names ≡ length kept.names = ap length names in omega (arith, k, l, size));
+  },
+  (λ i. record {
+    letters = λ b. option_map_or (λ (x : Waiting). x.letters) (boxes b i) [];
+    in_flight = λ b. option_map_or (λ (x : Waiting). x.in_flight) (boxes b i) 0;
+    ready = map (name_of (names i)) (line i);
+  }),
+)
+
+-- a box is written as it was
+pub written_back : (kept after : Kept) (a : Address) (box now : Waiting) → box_of kept a ≡ Some box → now ≡ box → ((b : Address) → box_of after b ≡ cond (is_at (address_order a) b) (Some now) (box_of kept b)) → (b : Address) → box_of after b ≡ box_of kept b
+written_back kept after a box now here same writes b = writes b ∙ by_test {P = cond (is_at (address_order a) b) (Some now) (box_of kept b) ≡ box_of kept b} (is_at (address_order a) b)
+    (λ e. ap (λ t. cond t (Some now) (box_of kept b)) e ∙ ap Some same ∙ sym here ∙ ap (box_of kept) ((same_address-Decides a b).0 (sym (address_test a b) ∙ e)))
+    (λ e. ap (λ t. cond t (Some now) (box_of kept b)) e)
+
+map_in : (f g : ℕ → Address) (ns : List ℕ) → ((n : ℕ) → stands n ns ≡ true → f n ≡ g n) → map f ns ≡ map g ns
+map_in f g [] same = refl
+map_in f g (n ∷ ns) same = (λ i. same n (at_head n ns) i ∷ map_in f g ns (λ m h. same m (in_tail m n ns h)) i)
+
+-- a number in line is that of a name
+pub number_known : (kept : Kept) → IsKept kept → (n : ℕ) → stands n kept.line.numbers ≡ true → n < length kept.names
+number_known kept is n h = split (box_of kept (name_of kept.names n)) refl (is.held n h)
+  where
+    split : (o : Option Waiting) → box_of kept (name_of kept.names n) ≡ o → option_map (λ (b : Waiting). b.number) o ≡ Some n → n < length kept.names
+    split None found e = absurd (none_is_not n e)
+    split (Some box) found e =
+        let k = (is.boxed (name_of kept.names n) box found).numbered in
+        let at : box.number ≡ n = some_is box.number n e in
+        omega (arith, k, at)
+
+pub new_box : (kept after : Kept) (a : Address) (box : Waiting) → IsKept kept → box_of kept a ≡ None → box ≡ record { letters = []; in_flight = 0; number = length kept.names }
+  → ((b : Address) → box_of after b ≡ cond (is_at (address_order a) b) (Some box) (box_of kept b))
+  → after.names ≡ kept.names ++ a ∷ [] → after.line ≡ kept.line → length kept.names < kept.line.size → IsKept after × (post_of after ≡ post_of kept)
+new_box kept after a box is none empty writes names line room =
+    let Number : Option Waiting → Option ℕ = λ o. option_map (λ (b : Waiting). b.number) o in
+    let size : length after.names ≡ length kept.names + 1 = ap length names ∙ length-append kept.names (a ∷ []) in
+    let old_name : (n : ℕ) → n < length kept.names → name_of after.names n ≡ name_of kept.names n =
+      λ n k. ap (λ (ns : List Address). name_of ns n) names ∙ get_or_append_left kept.names (a ∷ []) empty_address n k in
+    let last_name : name_of after.names (length kept.names) ≡ a =
+      ap (λ (ns : List Address). name_of ns (length kept.names)) names ∙ get_or-append_right kept.names (a ∷ []) (length kept.names) (length kept.names) empty_address refl (omega arith)
+      ∙ (let first : length kept.names - length kept.names ≡ 0 = omega arith in ap (λ n. get_or (a ∷ []) n empty_address) first) in
+    let new_here : (b : Address) → same_address a b ≡ true → box_of after b ≡ Some box = λ b e. writes b ∙ ap (λ t. cond t (Some box) (box_of kept b)) (address_test a b ∙ e) in
+    let old_there : (b : Address) → same_address a b ≡ false → box_of after b ≡ box_of kept b = λ b e. writes b ∙ ap (λ t. cond t (Some box) (box_of kept b)) (address_test a b ∙ e) in
+    let apart : (b : Address) (other : Waiting) → box_of kept b ≡ Some other → same_address a b ≡ false = λ b other found.
+      by_test {P = same_address a b ≡ false} (same_address a b)
+        (λ e. absurd (none_is_not other (sym none ∙ ap (box_of kept) ((same_address-Decides a b).0 e) ∙ found)))
+        (λ e. e) in
+    let out_of_line : stands (length kept.names) kept.line.numbers ≡ false = by_test {P = stands (length kept.names) kept.line.numbers ≡ false} (stands (length kept.names) kept.line.numbers)
+        (λ e. absurd (let k = number_known kept is (length kept.names) e in omega (arith, k))) (λ e. e) in
+    (
+      record {
+        boxed = λ b other found. by_test {P = IsBoxOf after.names after.line.numbers b other} (same_address a b)
+          (λ e.
+            let at : a ≡ b = (same_address-Decides a b).0 e in
+            let same : box ≡ other = some_is box other (sym (new_here b e) ∙ found) in
+            let number : box.number ≡ length kept.names = ap (λ (x : Waiting). x.number) empty in
+            let first : IsBoxOf after.names after.line.numbers a box = record {
+              numbered = omega (arith, number, size);
+              named = ap (name_of after.names) number ∙ last_name;
+              lined = ap (λ n. stands n after.line.numbers) number ∙ ap (λ (l : InLine). stands (length kept.names) l.numbers) line ∙ out_of_line ∙ sym (ap (λ (x : Waiting). waits x.letters x.in_flight) empty);
+              owned = ap (λ (x : Waiting). list_all (λ letter. same_address a letter.target) x.letters) empty;
+              flown = (let f : box.in_flight ≡ 0 = ap (λ (x : Waiting). x.in_flight) empty in omega (arith, f));
+            } in
+            subst (λ x. IsBoxOf after.names after.line.numbers b x) same (subst (λ x. IsBoxOf after.names after.line.numbers x box) at first))
+          (λ e.
+            let before : IsBoxOf kept.names kept.line.numbers b other = is.boxed b other (sym (old_there b e) ∙ found) in
+            record {
+              numbered = (let k = before.numbered in omega (arith, k, size));
+              named = old_name other.number before.numbered ∙ before.named;
+              lined = ap (λ (l : InLine). stands other.number l.numbers) line ∙ before.lined;
+              owned = before.owned;
+              flown = before.flown;
+            });
+        held = λ n h.
+          let stood : stands n kept.line.numbers ≡ true = sym (ap (λ (l : InLine). stands n l.numbers) line) ∙ h in
+          let known : n < length kept.names = number_known kept is n stood in
+          let was = is.held n stood in
+          let off : same_address a (name_of kept.names n) ≡ false = by_test {P = same_address a (name_of kept.names n) ≡ false} (same_address a (name_of kept.names n))
+            (λ e. absurd (none_is_not n (sym (ap Number (sym (ap (box_of kept) ((same_address-Decides a (name_of kept.names n)).0 e)) ∙ none)) ∙ was))) (λ e. e) in
+          ap (λ x. Number (box_of after x)) (old_name n known) ∙ ap Number (old_there (name_of kept.names n) off) ∙ was;
+        roomy = (let s : after.line.size ≡ kept.line.size = ap (λ (l : InLine). l.size) line in omega (arith, size, s, room));
+      },
+      (let letters : (b : Address) → option_map_or (λ (x : Waiting). x.letters) (box_of after b) [] ≡ option_map_or (λ (x : Waiting). x.letters) (box_of kept b) [] =
+          λ b. by_test {P = option_map_or (λ (x : Waiting). x.letters) (box_of after b) [] ≡ option_map_or (λ (x : Waiting). x.letters) (box_of kept b) []} (same_address a b)
+            (λ e. ap (λ o. option_map_or (λ (x : Waiting). x.letters) o []) (new_here b e) ∙ ap (λ (x : Waiting). x.letters) empty
+              ∙ sym (ap (λ o. option_map_or (λ (x : Waiting). x.letters) o []) (sym (ap (box_of kept) ((same_address-Decides a b).0 e)) ∙ none)))
+            (λ e. ap (λ o. option_map_or (λ (x : Waiting). x.letters) o []) (old_there b e)) in
+        let in_flight : (b : Address) → option_map_or (λ (x : Waiting). x.in_flight) (box_of after b) 0 ≡ option_map_or (λ (x : Waiting). x.in_flight) (box_of kept b) 0 =
+          λ b. by_test {P = option_map_or (λ (x : Waiting). x.in_flight) (box_of after b) 0 ≡ option_map_or (λ (x : Waiting). x.in_flight) (box_of kept b) 0} (same_address a b)
+            (λ e. ap (λ o. option_map_or (λ (x : Waiting). x.in_flight) o 0) (new_here b e) ∙ ap (λ (x : Waiting). x.in_flight) empty
+              ∙ sym (ap (λ o. option_map_or (λ (x : Waiting). x.in_flight) o 0) (sym (ap (box_of kept) ((same_address-Decides a b).0 e)) ∙ none)))
+            (λ e. ap (λ o. option_map_or (λ (x : Waiting). x.in_flight) o 0) (old_there b e)) in
+        let ready : map (name_of after.names) after.line.numbers ≡ map (name_of kept.names) kept.line.numbers =
+          ap (λ (l : InLine). map (name_of after.names) l.numbers) line ∙ map_in (name_of after.names) (name_of kept.names) kept.line.numbers (λ n h. old_name n (number_known kept is n h)) in
+        (λ i. record { letters = λ b. letters b i; in_flight = λ b. in_flight b i; ready = ready i })),
+    )

@@ -1,5 +1,5 @@
 //! The mail of all addresses.
-ghost use Rattle.std.specs.Prelude.{◌≡◌, ◌↔◌, ◌<◌, ◌≤◌, true, false, length, slice_get, IsTrue, IsNone, IfOk, IfErr, IfSome, OnOk, OnErr, MatchOption, nat_eq};
+ghost use Rattle.std.specs.Prelude.{◌≡◌, ◌↔◌, ◌++◌, ◌∷◌, [], vec_len, vec_capacity, ◌<◌, ◌≤◌, true, false, length, slice_get, IsTrue, IsNone, IfOk, IfErr, IfSome, OnOk, OnErr, MatchOption, nat_eq};
 ghost use Rattle.std.specs.Option.{option_copied};
 ghost use Rattle.typed_values.specs.declared.address.Address.{Address};
 ghost use Rattle.batch_queue.specs.Lines.{stands};
@@ -74,16 +74,12 @@ impl Mail {
         if self.boxes.contains_key(address) {
             return Ok(());
         }
-        let number = self.names.len();
-        if self.line.size() == number {
-            self.line.grow()?;
-        }
-        self.names.reserve(1)?;
         let name = address.try_clone(self.alloc)?;
         let key = address.try_clone(self.alloc)?;
-        self.boxes.insert(key, MailBox::new(self.alloc, number))?;
-        // There is room for it.
-        let _pushed = self.names.push(name);
+        make_room(&mut self.names, &mut self.line)?;
+        let kept = MailBox::new(self.alloc, self.names.len());
+        self.boxes.insert(key, kept)?;
+        add_name(&mut self.names, name);
         Ok(())
     }
 
@@ -97,7 +93,9 @@ impl Mail {
             return Err(letter);
         };
         let was_ready = kept.is_ready();
-        kept.push(letter)?;
+        if let Err(refused) = kept.push(letter) {
+            return Err(refused);
+        }
         line_up(&mut self.line, kept, was_ready);
         Ok(())
     }
@@ -134,7 +132,8 @@ impl Mail {
 
     /// So many letters of an address are in flight.
     fn open(&mut self, address: &Address, count: usize)
-        requires { count ≤ length ((post_of self.old).letters address.now) }
+        requires some { 0 < length ((post_of self.old).letters address.now) }
+        requires most { count ≤ length ((post_of self.old).letters address.now) }
         ensures { post_of self.new ≡ opened address.now count (post_of self.old) }
     {
         if let Some(kept) = self.boxes.get_mut(address) {
@@ -215,4 +214,28 @@ fn line_up(line: &mut Line, kept: &MailBox, was_ready: bool)
     } else {
         line.leave(kept.number());
     }
+}
+
+/// Makes room for one name more, and for its number. An `Err` changes no name and no line.
+fn make_room(names: &mut Vec<Address>, line: &mut Line) -> Mem<()>
+    requires { vec_len names.old ≤ line.old.size }
+    ensures names { names.new.items ≡ names.old.items }
+    ensures line { line.new.numbers ≡ line.old.numbers }
+    ensures size { line.old.size ≤ line.new.size }
+    ensures number { OnOk result (vec_len names.new < line.new.size) }
+    ensures room { OnOk result (vec_len names.new < vec_capacity names.new) }
+{
+    if line.size() == names.len() {
+        line.grow()?;
+    }
+    names.reserve(1)?;
+    Ok(())
+}
+
+/// Adds a name where there is room for it. Takes no memory.
+fn add_name(names: &mut Vec<Address>, name: Address)
+    requires { vec_len names.old < vec_capacity names.old }
+    ensures { names.new.items ≡ names.old.items ++ name ∷ [] }
+{
+    let _pushed = names.push(name);
 }
