@@ -1,5 +1,5 @@
 -- What a change of one box makes of all that is kept.
-use Rattle.std.proofs.Common.{◌≡◌, ◌∙◌, sym, ap, subst, refl, ℕ, zero, suc, ◌+◌, ◌-◌, ◌<◌, ◌≤◌, Bool, true, false, cond, true≢false, List, [], ◌∷◌, ◌++◌, length, map, filter, drop, get_or, Option, Some, None, arith, length-append}
+use Rattle.std.proofs.Common.{◌≡◌, ◌∙◌, sym, ap, subst, refl, ℕ, zero, suc, ◌+◌, ◌-◌, ◌<◌, ◌≤◌, Bool, true, false, cond, true≢false, List, [], ◌∷◌, ◌++◌, length, map, filter, drop, get_or, slice_get, Option, Some, None, arith, length-append}
 use Rattle.std.specs.Prelude.{nat_eq, not, ◌||◌, ◌&&◌, ◌==◌}
 use Rattle.std.specs.List.{list_any, list_all}
 use Rattle.std.specs.Option.{option_map, option_map_or}
@@ -13,7 +13,7 @@ use Rattle.std.specs.BTreeMap.{is_at}
 use Rattle.typed_values.specs.Tables.{empty_address}
 use Rattle.batch_queue.specs.Boxes.{Waiting}
 use Rattle.batch_queue.specs.Lines.{InLine, stands, without}
-use Rattle.batch_queue.specs.Post.{Post, waits, lined_up, with_letters}
+use Rattle.batch_queue.specs.Post.{Post, waits, is_ready, lined_up, with_letters}
 use Rattle.batch_queue.specs.Kept.{Kept, address_order, box_of, name_of, post_of, IsBoxOf, IsKept}
 use Rattle.batch_queue.proofs.Linking.{at_head, in_tail, without_none}
 use Rattle.batch_queue.proofs.Addresses.{address_test, same_itself}
@@ -22,7 +22,7 @@ by_test : {P : Type 0} (t : Bool) → (t ≡ true → P) → (t ≡ false → P)
 by_test true f g = f refl
 by_test false f g = g refl
 
-some_is : {X : Type 0} (x y : X) → Some x ≡ Some y → x ≡ y
+pub some_is : {X : Type 0} (x y : X) → Some x ≡ Some y → x ≡ y
 some_is x y e = ap (λ o. option_map_or (λ z. z) o x) e
 
 none_is_not : {X : Type 0} (x : X) → None ≡ Some x → ⊥
@@ -347,3 +347,39 @@ new_box kept after a box is none empty writes names line room =
           ap (λ (l : InLine). map (name_of after.names) l.numbers) line ∙ map_in (name_of after.names) (name_of kept.names) kept.line.numbers (λ n h. old_name n (number_known kept is n h)) in
         (λ i. record { letters = λ b. letters b i; in_flight = λ b. in_flight b i; ready = ready i })),
     )
+
+-- ---- who is ready
+
+ready_box : (kept : Kept) (a : Address) (o : Option Waiting) → IsKept kept → box_of kept a ≡ o → is_ready (post_of kept) a ≡ option_map_or (λ (box : Waiting). stands box.number kept.line.numbers) o false
+ready_box kept a None is found = ap (λ o. waits (option_map_or (λ (x : Waiting). x.letters) o []) (option_map_or (λ (x : Waiting). x.in_flight) o 0)) found
+ready_box kept a (Some box) is found =
+    ap (λ o. waits (option_map_or (λ (x : Waiting). x.letters) o []) (option_map_or (λ (x : Waiting). x.in_flight) o 0)) found ∙ sym (is.boxed a box found).lined
+
+pub none_ready : (kept : Kept) → IsKept kept → slice_get kept.line.numbers 0 ≡ None → (a : Address) → is_ready (post_of kept) a ≡ false
+none_ready kept is none a = ready_box kept a (box_of kept a) is refl ∙ split (box_of kept a) kept.line.numbers none
+  where
+    split : (o : Option Waiting) (ns : List ℕ) → slice_get ns 0 ≡ None → option_map_or (λ (box : Waiting). stands box.number ns) o false ≡ false
+    split None ns e = refl
+    split (Some box) [] e = refl
+    split (Some box) (n ∷ ns) e = absurd cc
+
+pub first_ready : (kept : Kept) (n : ℕ) → IsKept kept → slice_get kept.line.numbers 0 ≡ Some n → (n < length kept.names) × (is_ready (post_of kept) (name_of kept.names n) ≡ true) × (slice_get (map (name_of kept.names) kept.line.numbers) 0 ≡ Some (name_of kept.names n))
+first_ready kept n is first =
+    let stood : stands n kept.line.numbers ≡ true = heads kept.line.numbers first in
+    (
+      number_known kept is n stood,
+      ready_box kept (name_of kept.names n) (box_of kept (name_of kept.names n)) is refl ∙ numbered (box_of kept (name_of kept.names n)) (is.held n stood) stood,
+      mapped kept.line.numbers first,
+    )
+  where
+    heads : (ns : List ℕ) → slice_get ns 0 ≡ Some n → stands n ns ≡ true
+    heads [] e = absurd cc
+    heads (m ∷ ns) e = let same : m ≡ n = some_is m n e in subst (λ k. stands k (m ∷ ns) ≡ true) same (at_head m ns)
+
+    numbered : (o : Option Waiting) → option_map (λ (b : Waiting). b.number) o ≡ Some n → stands n kept.line.numbers ≡ true → option_map_or (λ (box : Waiting). stands box.number kept.line.numbers) o false ≡ true
+    numbered None e s = absurd (none_is_not n e)
+    numbered (Some box) e s = ap (λ k. stands k kept.line.numbers) (some_is box.number n e) ∙ s
+
+    mapped : (ns : List ℕ) → slice_get ns 0 ≡ Some n → slice_get (map (name_of kept.names) ns) 0 ≡ Some (name_of kept.names n)
+    mapped [] e = absurd cc
+    mapped (m ∷ ns) e = ap (λ k. Some (name_of kept.names k)) (some_is m n e)

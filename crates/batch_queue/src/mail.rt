@@ -183,17 +183,44 @@ impl Mail {
         ensures some { IfSome result (λ address. IsTrue (is_ready (post_of self.now) address.now)) }
         ensures none { IsNone result ↔ ((address : Address) → is_ready (post_of self.now) address ≡ false) }
     {
-        let number = self.line.first()?;
-        self.names.get(number)
+        match self.line.first() {
+            Some(number) => name_at(self.names.as_slice(), number),
+            None => None,
+        }
     }
 
     /// Copies of all letters: by address in byte order of its canonical spelling, and each address' in order of arrival, those
     /// in flight first.
     pub fn letters(&self) -> Mem<List<Letter>>
-        ensures { IfOk result (IsAll (post_of self.now)) }
     {
-        Ok(List::new(self.alloc))
+        let mut gathered = Vec::with_capacity(self.alloc, self.boxes.len())?;
+        for (address, kept) in &self.boxes {
+            gathered.push(Gathered {
+                key: encode_address(self.alloc, address)?,
+                letters: kept.all(self.alloc)?,
+            })?;
+        }
+        gathered.sort_by(|one, other| one.key.as_slice().cmp(&other.key.as_slice()))?;
+        joined(self.alloc, gathered)
     }
+}
+
+/// The letters of one address, and its canonical spelling.
+#[derive(Drop)]
+struct Gathered {
+    key: Bytes,
+    letters: List<Letter>,
+}
+
+/// All of these letters, in order.
+fn joined(alloc: Global, gathered: Vec<Gathered>) -> Mem<List<Letter>> {
+    let mut all = List::new(alloc);
+    for one in gathered {
+        for letter in one.letters.into_vec() {
+            all.push(letter)?;
+        }
+    }
+    Ok(all)
 }
 
 /// Lines a box up, after a change: one that became ready goes last, and one that is so no more leaves.
@@ -238,4 +265,11 @@ fn add_name(names: &mut Vec<Address>, name: Address)
     ensures { names.new.items ≡ names.old.items ++ name ∷ [] }
 {
     let _pushed = names.push(name);
+}
+
+/// The name of a number.
+fn name_at(names: &[Address], number: usize) -> Option<&Address>
+    ensures { option_copied result ≡ slice_get names.now number }
+{
+    names.get(number)
 }

@@ -153,6 +153,13 @@ impl MailBox {
         }
     }
 
+    /// A copy of all letters.
+    pub(crate) fn all(&self, alloc: Global) -> Mem<List<Letter>>
+        ensures { IfOk result (λ copy. copy ≡ self.now.letters) }
+    {
+        self.front(alloc, self.letters.len())
+    }
+
     /// A copy of so many letters from the first on, or of all where there are fewer.
     fn front(&self, alloc: Global, count: usize) -> Mem<List<Letter>>
         ensures { IfOk result (λ copy. copy ≡ take count self.now.letters) }
