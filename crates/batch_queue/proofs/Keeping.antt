@@ -94,7 +94,7 @@ gone_named name a n [] named = refl
 gone_named name a n (x ∷ xs) named = split (nat_eq n x) (named x (at_head x xs)) (gone_named name a n xs (tail_named name a n x xs named))
   where
     split : (t : Bool) → same_address a (name x) ≡ t → map name (without n xs) ≡ filter (λ other. not (same_address a other)) (map name xs)
-      → map name (cond (not t) (x ∷ without n xs) (without n xs)) ≡ filter (λ other. not (same_address a other)) (map name (x ∷ xs))
+        → map name (cond (not t) (x ∷ without n xs) (without n xs)) ≡ filter (λ other. not (same_address a other)) (map name (x ∷ xs))
     split true e more = more ∙ sym (ap (λ t. cond (not t) (name x ∷ filter (λ other. not (same_address a other)) (map name xs)) (filter (λ other. not (same_address a other)) (map name xs))) e)
     split false e more = ap (λ ys. name x ∷ ys) more ∙ sym (ap (λ t. cond (not t) (name x ∷ filter (λ other. not (same_address a other)) (map name xs)) (filter (λ other. not (same_address a other)) (map name xs))) e)
 
@@ -114,12 +114,12 @@ lined_named name a n ns true is named = split (stands n ns) refl
 pub named_in_line : (kept : Kept) (a : Address) (box : Waiting) → IsKept kept → box_of kept a ≡ Some box → AreNamed (name_of kept.names) a box.number kept.line.numbers
 named_in_line kept a box is here m h = by_test {P = same_address a (name_of kept.names m) ≡ nat_eq box.number m} (nat_eq box.number m)
     (λ e. let n : box.number ≡ m = (unsigned_Decides box.number m).0 e in
-        (same_address-Decides a (name_of kept.names m)).1 (sym (is.boxed a box here).named ∙ ap (name_of kept.names) n) ∙ sym e)
+    (same_address-Decides a (name_of kept.names m)).1 (sym (is.boxed a box here).named ∙ ap (name_of kept.names) n) ∙ sym e)
     (λ e. by_test {P = same_address a (name_of kept.names m) ≡ nat_eq box.number m} (same_address a (name_of kept.names m))
-        (λ f. let there : a ≡ name_of kept.names m = (same_address-Decides a (name_of kept.names m)).0 f in
-            let number : Some box.number ≡ Some m = sym (ap (λ (o : Option Waiting). option_map (λ b. b.number) o) (sym (ap (box_of kept) there) ∙ here)) ∙ is.held m h in
-            absurd (true≢false (sym ((unsigned_Decides box.number m).1 (some_is box.number m number)) ∙ e)))
-        (λ f. f ∙ sym e))
+    (λ f. let there : a ≡ name_of kept.names m = (same_address-Decides a (name_of kept.names m)).0 f in
+    let number : Some box.number ≡ Some m = sym (ap (λ (o : Option Waiting). option_map (λ b. b.number) o) (sym (ap (box_of kept) there) ∙ here)) ∙ is.held m h in
+    absurd (true≢false (sym ((unsigned_Decides box.number m).1 (some_is box.number m number)) ∙ e)))
+    (λ f. f ∙ sym e))
 
 module _ (kept after : Kept) (a : Address) (box now : Waiting) where
   -- one box is another one now, and is lined up
@@ -147,31 +147,31 @@ module _ (kept after : Kept) (a : Address) (box now : Waiting) where
       let line : after.line.numbers ≡ lined_up nat_eq box.number (waits now.letters now.in_flight) kept.line.numbers = ap (λ (l : InLine). l.numbers) (line_is c) in
       let old = c.kept_before.boxed a box c.here in
       by_test {P = IsBoxOf after.names after.line.numbers b other} (same_address a b)
-        (λ e.
-          let at : a ≡ b = (same_address-Decides a b).0 e in
-          let is : now ≡ other = some_is now other (sym (new_here c b e) ∙ found) in
-          let first : IsBoxOf after.names after.line.numbers a now = record {
-            numbered = (let k = old.numbered in let n = c.numbered in let l : length after.names ≡ length kept.names = ap length c.names in omega (arith, k, n, l));
-            named = ap (λ (names : List Address). name_of names now.number) c.names ∙ ap (name_of kept.names) c.numbered ∙ old.named;
-            lined = ap (λ n. stands n after.line.numbers) c.numbered ∙ ap (stands box.number) line ∙ lined_self box.number kept.line.numbers (waits now.letters now.in_flight);
-            owned = c.owned;
-            flown = c.flown;
-          } in
-          subst (λ x. IsBoxOf after.names after.line.numbers b x) is (subst (λ x. IsBoxOf after.names after.line.numbers x now) at first))
-        (λ e.
-          let before : IsBoxOf kept.names kept.line.numbers b other = c.kept_before.boxed b other (sym (old_there c b e) ∙ found) in
-          let off : nat_eq other.number box.number ≡ false = by_test {P = nat_eq other.number box.number ≡ false} (nat_eq other.number box.number)
-            (λ f. let n : other.number ≡ box.number = (unsigned_Decides other.number box.number).0 f in
-              let at : a ≡ b = sym old.named ∙ sym (ap (name_of kept.names) n) ∙ before.named in
-              absurd (true≢false (sym ((same_address-Decides a b).1 at) ∙ e)))
-            (λ f. f) in
-          record {
-            numbered = (let k = before.numbered in let l : length after.names ≡ length kept.names = ap length c.names in omega (arith, k, l));
-            named = ap (λ (names : List Address). name_of names other.number) c.names ∙ before.named;
-            lined = ap (stands other.number) line ∙ lined_other other.number box.number kept.line.numbers (waits now.letters now.in_flight) off ∙ before.lined;
-            owned = before.owned;
-            flown = before.flown;
-          })
+      (λ e.
+      let at : a ≡ b = (same_address-Decides a b).0 e in
+      let is : now ≡ other = some_is now other (sym (new_here c b e) ∙ found) in
+      let first : IsBoxOf after.names after.line.numbers a now = record {
+        numbered = (let k = old.numbered in let n = c.numbered in let l : length after.names ≡ length kept.names = ap length c.names in omega (arith, k, n, l));
+        named = ap (λ (names : List Address). name_of names now.number) c.names ∙ ap (name_of kept.names) c.numbered ∙ old.named;
+        lined = ap (λ n. stands n after.line.numbers) c.numbered ∙ ap (stands box.number) line ∙ lined_self box.number kept.line.numbers (waits now.letters now.in_flight);
+        owned = c.owned;
+        flown = c.flown;
+      } in
+      subst (λ x. IsBoxOf after.names after.line.numbers b x) is (subst (λ x. IsBoxOf after.names after.line.numbers x now) at first))
+      (λ e.
+      let before : IsBoxOf kept.names kept.line.numbers b other = c.kept_before.boxed b other (sym (old_there c b e) ∙ found) in
+      let off : nat_eq other.number box.number ≡ false = by_test {P = nat_eq other.number box.number ≡ false} (nat_eq other.number box.number)
+      (λ f. let n : other.number ≡ box.number = (unsigned_Decides other.number box.number).0 f in
+      let at : a ≡ b = sym old.named ∙ sym (ap (name_of kept.names) n) ∙ before.named in
+      absurd (true≢false (sym ((same_address-Decides a b).1 at) ∙ e)))
+      (λ f. f) in
+      record {
+        numbered = (let k = before.numbered in let l : length after.names ≡ length kept.names = ap length c.names in omega (arith, k, l));
+        named = ap (λ (names : List Address). name_of names other.number) c.names ∙ before.named;
+        lined = ap (stands other.number) line ∙ lined_other other.number box.number kept.line.numbers (waits now.letters now.in_flight) off ∙ before.lined;
+        owned = before.owned;
+        flown = before.flown;
+      })
 
   held_after : Changes → (n : ℕ) → stands n after.line.numbers ≡ true → option_map (λ (b : Waiting). b.number) (box_of after (name_of after.names n)) ≡ Some n
   held_after c n h =
@@ -180,17 +180,17 @@ module _ (kept after : Kept) (a : Address) (box now : Waiting) where
       let named : name_of after.names n ≡ name_of kept.names n = ap (λ (names : List Address). name_of names n) c.names in
       let number : Option Waiting → Option ℕ = λ o. option_map (λ (b : Waiting). b.number) o in
       ap (λ x. number (box_of after x)) named ∙ by_test {P = number (box_of after (name_of kept.names n)) ≡ Some n} (nat_eq n box.number)
-        (λ e. let is : n ≡ box.number = (unsigned_Decides n box.number).0 e in
-          let name : a ≡ name_of kept.names n = sym old.named ∙ sym (ap (name_of kept.names) is) in
-          ap number (new_here c (name_of kept.names n) ((same_address-Decides a (name_of kept.names n)).1 name)) ∙ ap Some (c.numbered ∙ sym is))
-        (λ e.
-          let stood : stands n kept.line.numbers ≡ true = sym (lined_other n box.number kept.line.numbers (waits now.letters now.in_flight) e) ∙ sym (ap (stands n) line) ∙ h in
-          let held = c.kept_before.held n stood in
-          by_test {P = number (box_of after (name_of kept.names n)) ≡ Some n} (same_address a (name_of kept.names n))
-            (λ f. let name : a ≡ name_of kept.names n = (same_address-Decides a (name_of kept.names n)).0 f in
-              let is : Some box.number ≡ Some n = sym (ap number (sym (ap (box_of kept) name) ∙ c.here)) ∙ held in
-              absurd (true≢false (sym ((unsigned_Decides n box.number).1 (sym (some_is box.number n is))) ∙ e)))
-            (λ f. ap number (old_there c (name_of kept.names n) f) ∙ held))
+      (λ e. let is : n ≡ box.number = (unsigned_Decides n box.number).0 e in
+      let name : a ≡ name_of kept.names n = sym old.named ∙ sym (ap (name_of kept.names) is) in
+      ap number (new_here c (name_of kept.names n) ((same_address-Decides a (name_of kept.names n)).1 name)) ∙ ap Some (c.numbered ∙ sym is))
+      (λ e.
+      let stood : stands n kept.line.numbers ≡ true = sym (lined_other n box.number kept.line.numbers (waits now.letters now.in_flight) e) ∙ sym (ap (stands n) line) ∙ h in
+      let held = c.kept_before.held n stood in
+      by_test {P = number (box_of after (name_of kept.names n)) ≡ Some n} (same_address a (name_of kept.names n))
+      (λ f. let name : a ≡ name_of kept.names n = (same_address-Decides a (name_of kept.names n)).0 f in
+      let is : Some box.number ≡ Some n = sym (ap number (sym (ap (box_of kept) name) ∙ c.here)) ∙ held in
+      absurd (true≢false (sym ((unsigned_Decides n box.number).1 (sym (some_is box.number n is))) ∙ e)))
+      (λ f. ap number (old_there c (name_of kept.names n) f) ∙ held))
 
   pub kept_after : Changes → IsKept after
   kept_after c = record {
@@ -202,17 +202,17 @@ module _ (kept after : Kept) (a : Address) (box now : Waiting) where
   pub post_after : Changes → post_of after ≡ with_letters a now.letters now.in_flight (post_of kept)
   post_after c =
       let letters : (b : Address) → option_map_or (λ (x : Waiting). x.letters) (box_of after b) [] ≡ cond (same_address a b) now.letters (option_map_or (λ (x : Waiting). x.letters) (box_of kept b) []) =
-        λ b. by_test {P = option_map_or (λ (x : Waiting). x.letters) (box_of after b) [] ≡ cond (same_address a b) now.letters (option_map_or (λ (x : Waiting). x.letters) (box_of kept b) [])} (same_address a b)
-          (λ e. ap (λ o. option_map_or (λ (x : Waiting). x.letters) o []) (new_here c b e) ∙ sym (ap (λ t. cond t now.letters (option_map_or (λ (x : Waiting). x.letters) (box_of kept b) [])) e))
-          (λ e. ap (λ o. option_map_or (λ (x : Waiting). x.letters) o []) (old_there c b e) ∙ sym (ap (λ t. cond t now.letters (option_map_or (λ (x : Waiting). x.letters) (box_of kept b) [])) e)) in
+      λ b. by_test {P = option_map_or (λ (x : Waiting). x.letters) (box_of after b) [] ≡ cond (same_address a b) now.letters (option_map_or (λ (x : Waiting). x.letters) (box_of kept b) [])} (same_address a b)
+      (λ e. ap (λ o. option_map_or (λ (x : Waiting). x.letters) o []) (new_here c b e) ∙ sym (ap (λ t. cond t now.letters (option_map_or (λ (x : Waiting). x.letters) (box_of kept b) [])) e))
+      (λ e. ap (λ o. option_map_or (λ (x : Waiting). x.letters) o []) (old_there c b e) ∙ sym (ap (λ t. cond t now.letters (option_map_or (λ (x : Waiting). x.letters) (box_of kept b) [])) e)) in
       let in_flight : (b : Address) → option_map_or (λ (x : Waiting). x.in_flight) (box_of after b) 0 ≡ cond (same_address a b) now.in_flight (option_map_or (λ (x : Waiting). x.in_flight) (box_of kept b) 0) =
-        λ b. by_test {P = option_map_or (λ (x : Waiting). x.in_flight) (box_of after b) 0 ≡ cond (same_address a b) now.in_flight (option_map_or (λ (x : Waiting). x.in_flight) (box_of kept b) 0)} (same_address a b)
-          (λ e. ap (λ o. option_map_or (λ (x : Waiting). x.in_flight) o 0) (new_here c b e) ∙ sym (ap (λ t. cond t now.in_flight (option_map_or (λ (x : Waiting). x.in_flight) (box_of kept b) 0)) e))
-          (λ e. ap (λ o. option_map_or (λ (x : Waiting). x.in_flight) o 0) (old_there c b e) ∙ sym (ap (λ t. cond t now.in_flight (option_map_or (λ (x : Waiting). x.in_flight) (box_of kept b) 0)) e)) in
+      λ b. by_test {P = option_map_or (λ (x : Waiting). x.in_flight) (box_of after b) 0 ≡ cond (same_address a b) now.in_flight (option_map_or (λ (x : Waiting). x.in_flight) (box_of kept b) 0)} (same_address a b)
+      (λ e. ap (λ o. option_map_or (λ (x : Waiting). x.in_flight) o 0) (new_here c b e) ∙ sym (ap (λ t. cond t now.in_flight (option_map_or (λ (x : Waiting). x.in_flight) (box_of kept b) 0)) e))
+      (λ e. ap (λ o. option_map_or (λ (x : Waiting). x.in_flight) o 0) (old_there c b e) ∙ sym (ap (λ t. cond t now.in_flight (option_map_or (λ (x : Waiting). x.in_flight) (box_of kept b) 0)) e)) in
       let line : after.line.numbers ≡ lined_up nat_eq box.number (waits now.letters now.in_flight) kept.line.numbers = ap (λ (l : InLine). l.numbers) (line_is c) in
       let ready : map (name_of after.names) after.line.numbers ≡ lined_up same_address a (waits now.letters now.in_flight) (map (name_of kept.names) kept.line.numbers) =
-        ap (λ (names : List Address). map (name_of names) after.line.numbers) c.names ∙ ap (map (name_of kept.names)) line
-        ∙ lined_named (name_of kept.names) a box.number kept.line.numbers (waits now.letters now.in_flight) (c.kept_before.boxed a box c.here).named (named_in_line kept a box c.kept_before c.here) in
+      ap (λ (names : List Address). map (name_of names) after.line.numbers) c.names ∙ ap (map (name_of kept.names)) line
+      ∙ lined_named (name_of kept.names) a box.number kept.line.numbers (waits now.letters now.in_flight) (c.kept_before.boxed a box c.here).named (named_in_line kept a box c.kept_before c.here) in
       (λ i. record { letters = λ b. letters b i; in_flight = λ b. in_flight b i; ready = ready i })
 
 -- ---- the letters of a box
@@ -247,10 +247,10 @@ pub same_boxes : (kept after : Kept) → IsKept kept → ((b : Address) → box_
 same_boxes kept after is boxes names line size = (
   record {
     boxed = λ b other found.
-      let P : List Address → List ℕ → Type 0 = λ ns l. IsBoxOf ns l b other in
-      subst (λ ns. P ns after.line.numbers) (sym names) (subst (P kept.names) (sym line) (is.boxed b other (sym (boxes b) ∙ found)));
+        let P : List Address → List ℕ → Type 0 = λ ns l. IsBoxOf ns l b other in
+        subst (λ ns. P ns after.line.numbers) (sym names) (subst (P kept.names) (sym line) (is.boxed b other (sym (boxes b) ∙ found)));
     held = λ n h. ap (λ x. option_map (λ (b : Waiting). b.number) (box_of after x)) (ap (λ (ns : List Address). name_of ns n) names)
-      ∙ ap (option_map (λ (b : Waiting). b.number)) (boxes (name_of kept.names n)) ∙ is.held n (sym (ap (stands n) line) ∙ h);
+        ∙ ap (option_map (λ (b : Waiting). b.number)) (boxes (name_of kept.names n)) ∙ is.held n (sym (ap (stands n) line) ∙ h);
     roomy = (let k = is.roomy in let l : length after.names ≡ length kept.names = ap length names in omega (arith, k, l, size));
   },
   (λ i. record {
@@ -282,28 +282,27 @@ number_known kept is n h = split (box_of kept (name_of kept.names n)) refl (is.h
         omega (arith, k, at)
 
 pub new_box : (kept after : Kept) (a : Address) (box : Waiting) → IsKept kept → box_of kept a ≡ None → box ≡ record { letters = []; in_flight = 0; number = length kept.names }
-  → ((b : Address) → box_of after b ≡ cond (is_at (address_order a) b) (Some box) (box_of kept b))
-  → after.names ≡ kept.names ++ a ∷ [] → after.line ≡ kept.line → length kept.names < kept.line.size → IsKept after × (post_of after ≡ post_of kept)
+    → ((b : Address) → box_of after b ≡ cond (is_at (address_order a) b) (Some box) (box_of kept b))
+    → after.names ≡ kept.names ++ a ∷ [] → after.line ≡ kept.line → length kept.names < kept.line.size → IsKept after × (post_of after ≡ post_of kept)
 new_box kept after a box is none empty writes names line room =
     let Number : Option Waiting → Option ℕ = λ o. option_map (λ (b : Waiting). b.number) o in
     let size : length after.names ≡ length kept.names + 1 = ap length names ∙ length-append kept.names (a ∷ []) in
     let old_name : (n : ℕ) → n < length kept.names → name_of after.names n ≡ name_of kept.names n =
-      λ n k. ap (λ (ns : List Address). name_of ns n) names ∙ get_or_append_left kept.names (a ∷ []) empty_address n k in
+    λ n k. ap (λ (ns : List Address). name_of ns n) names ∙ get_or_append_left kept.names (a ∷ []) empty_address n k in
     let last_name : name_of after.names (length kept.names) ≡ a =
-      ap (λ (ns : List Address). name_of ns (length kept.names)) names ∙ get_or-append_right kept.names (a ∷ []) (length kept.names) (length kept.names) empty_address refl (omega arith)
-      ∙ (let first : length kept.names - length kept.names ≡ 0 = omega arith in ap (λ n. get_or (a ∷ []) n empty_address) first) in
+    ap (λ (ns : List Address). name_of ns (length kept.names)) names ∙ get_or-append_right kept.names (a ∷ []) (length kept.names) (length kept.names) empty_address refl (omega arith)
+    ∙ (let first : length kept.names - length kept.names ≡ 0 = omega arith in ap (λ n. get_or (a ∷ []) n empty_address) first) in
     let new_here : (b : Address) → same_address a b ≡ true → box_of after b ≡ Some box = λ b e. writes b ∙ ap (λ t. cond t (Some box) (box_of kept b)) (address_test a b ∙ e) in
     let old_there : (b : Address) → same_address a b ≡ false → box_of after b ≡ box_of kept b = λ b e. writes b ∙ ap (λ t. cond t (Some box) (box_of kept b)) (address_test a b ∙ e) in
     let apart : (b : Address) (other : Waiting) → box_of kept b ≡ Some other → same_address a b ≡ false = λ b other found.
-      by_test {P = same_address a b ≡ false} (same_address a b)
-        (λ e. absurd (none_is_not other (sym none ∙ ap (box_of kept) ((same_address-Decides a b).0 e) ∙ found)))
-        (λ e. e) in
+    by_test {P = same_address a b ≡ false} (same_address a b)
+    (λ e. absurd (none_is_not other (sym none ∙ ap (box_of kept) ((same_address-Decides a b).0 e) ∙ found)))
+    (λ e. e) in
     let out_of_line : stands (length kept.names) kept.line.numbers ≡ false = by_test {P = stands (length kept.names) kept.line.numbers ≡ false} (stands (length kept.names) kept.line.numbers)
-        (λ e. absurd (let k = number_known kept is (length kept.names) e in omega (arith, k))) (λ e. e) in
-    (
+    (λ e. absurd (let k = number_known kept is (length kept.names) e in omega (arith, k))) (λ e. e) in (
       record {
         boxed = λ b other found. by_test {P = IsBoxOf after.names after.line.numbers b other} (same_address a b)
-          (λ e.
+            (λ e.
             let at : a ≡ b = (same_address-Decides a b).0 e in
             let same : box ≡ other = some_is box other (sym (new_here b e) ∙ found) in
             let number : box.number ≡ length kept.names = ap (λ (x : Waiting). x.number) empty in
@@ -315,7 +314,7 @@ new_box kept after a box is none empty writes names line room =
               flown = (let f : box.in_flight ≡ 0 = ap (λ (x : Waiting). x.in_flight) empty in omega (arith, f));
             } in
             subst (λ x. IsBoxOf after.names after.line.numbers b x) same (subst (λ x. IsBoxOf after.names after.line.numbers x box) at first))
-          (λ e.
+            (λ e.
             let before : IsBoxOf kept.names kept.line.numbers b other = is.boxed b other (sym (old_there b e) ∙ found) in
             record {
               numbered = (let k = before.numbered in omega (arith, k, size));
@@ -325,27 +324,27 @@ new_box kept after a box is none empty writes names line room =
               flown = before.flown;
             });
         held = λ n h.
-          let stood : stands n kept.line.numbers ≡ true = sym (ap (λ (l : InLine). stands n l.numbers) line) ∙ h in
-          let known : n < length kept.names = number_known kept is n stood in
-          let was = is.held n stood in
-          let off : same_address a (name_of kept.names n) ≡ false = by_test {P = same_address a (name_of kept.names n) ≡ false} (same_address a (name_of kept.names n))
+            let stood : stands n kept.line.numbers ≡ true = sym (ap (λ (l : InLine). stands n l.numbers) line) ∙ h in
+            let known : n < length kept.names = number_known kept is n stood in
+            let was = is.held n stood in
+            let off : same_address a (name_of kept.names n) ≡ false = by_test {P = same_address a (name_of kept.names n) ≡ false} (same_address a (name_of kept.names n))
             (λ e. absurd (none_is_not n (sym (ap Number (sym (ap (box_of kept) ((same_address-Decides a (name_of kept.names n)).0 e)) ∙ none)) ∙ was))) (λ e. e) in
-          ap (λ x. Number (box_of after x)) (old_name n known) ∙ ap Number (old_there (name_of kept.names n) off) ∙ was;
+            ap (λ x. Number (box_of after x)) (old_name n known) ∙ ap Number (old_there (name_of kept.names n) off) ∙ was;
         roomy = (let s : after.line.size ≡ kept.line.size = ap (λ (l : InLine). l.size) line in omega (arith, size, s, room));
       },
       (let letters : (b : Address) → option_map_or (λ (x : Waiting). x.letters) (box_of after b) [] ≡ option_map_or (λ (x : Waiting). x.letters) (box_of kept b) [] =
           λ b. by_test {P = option_map_or (λ (x : Waiting). x.letters) (box_of after b) [] ≡ option_map_or (λ (x : Waiting). x.letters) (box_of kept b) []} (same_address a b)
-            (λ e. ap (λ o. option_map_or (λ (x : Waiting). x.letters) o []) (new_here b e) ∙ ap (λ (x : Waiting). x.letters) empty
-              ∙ sym (ap (λ o. option_map_or (λ (x : Waiting). x.letters) o []) (sym (ap (box_of kept) ((same_address-Decides a b).0 e)) ∙ none)))
-            (λ e. ap (λ o. option_map_or (λ (x : Waiting). x.letters) o []) (old_there b e)) in
-        let in_flight : (b : Address) → option_map_or (λ (x : Waiting). x.in_flight) (box_of after b) 0 ≡ option_map_or (λ (x : Waiting). x.in_flight) (box_of kept b) 0 =
+          (λ e. ap (λ o. option_map_or (λ (x : Waiting). x.letters) o []) (new_here b e) ∙ ap (λ (x : Waiting). x.letters) empty
+          ∙ sym (ap (λ o. option_map_or (λ (x : Waiting). x.letters) o []) (sym (ap (box_of kept) ((same_address-Decides a b).0 e)) ∙ none)))
+          (λ e. ap (λ o. option_map_or (λ (x : Waiting). x.letters) o []) (old_there b e)) in
+          let in_flight : (b : Address) → option_map_or (λ (x : Waiting). x.in_flight) (box_of after b) 0 ≡ option_map_or (λ (x : Waiting). x.in_flight) (box_of kept b) 0 =
           λ b. by_test {P = option_map_or (λ (x : Waiting). x.in_flight) (box_of after b) 0 ≡ option_map_or (λ (x : Waiting). x.in_flight) (box_of kept b) 0} (same_address a b)
-            (λ e. ap (λ o. option_map_or (λ (x : Waiting). x.in_flight) o 0) (new_here b e) ∙ ap (λ (x : Waiting). x.in_flight) empty
-              ∙ sym (ap (λ o. option_map_or (λ (x : Waiting). x.in_flight) o 0) (sym (ap (box_of kept) ((same_address-Decides a b).0 e)) ∙ none)))
-            (λ e. ap (λ o. option_map_or (λ (x : Waiting). x.in_flight) o 0) (old_there b e)) in
-        let ready : map (name_of after.names) after.line.numbers ≡ map (name_of kept.names) kept.line.numbers =
+          (λ e. ap (λ o. option_map_or (λ (x : Waiting). x.in_flight) o 0) (new_here b e) ∙ ap (λ (x : Waiting). x.in_flight) empty
+          ∙ sym (ap (λ o. option_map_or (λ (x : Waiting). x.in_flight) o 0) (sym (ap (box_of kept) ((same_address-Decides a b).0 e)) ∙ none)))
+          (λ e. ap (λ o. option_map_or (λ (x : Waiting). x.in_flight) o 0) (old_there b e)) in
+          let ready : map (name_of after.names) after.line.numbers ≡ map (name_of kept.names) kept.line.numbers =
           ap (λ (l : InLine). map (name_of after.names) l.numbers) line ∙ map_in (name_of after.names) (name_of kept.names) kept.line.numbers (λ n h. old_name n (number_known kept is n h)) in
-        (λ i. record { letters = λ b. letters b i; in_flight = λ b. in_flight b i; ready = ready i })),
+          (λ i. record { letters = λ b. letters b i; in_flight = λ b. in_flight b i; ready = ready i })),
     )
 
 -- ---- who is ready
@@ -365,8 +364,7 @@ none_ready kept is none a = ready_box kept a (box_of kept a) is refl ∙ split (
 
 pub first_ready : (kept : Kept) (n : ℕ) → IsKept kept → slice_get kept.line.numbers 0 ≡ Some n → (n < length kept.names) × (is_ready (post_of kept) (name_of kept.names n) ≡ true) × (slice_get (map (name_of kept.names) kept.line.numbers) 0 ≡ Some (name_of kept.names n))
 first_ready kept n is first =
-    let stood : stands n kept.line.numbers ≡ true = heads kept.line.numbers first in
-    (
+    let stood : stands n kept.line.numbers ≡ true = heads kept.line.numbers first in (
       number_known kept is n stood,
       ready_box kept (name_of kept.names n) (box_of kept (name_of kept.names n)) is refl ∙ numbered (box_of kept (name_of kept.names n)) (is.held n stood) stood,
       mapped kept.line.numbers first,

@@ -109,9 +109,9 @@ module _ (next last next' last' : ℕ → ℕ) (links : ℕ) where
   )
 
   pub joined : (i : ℕ) (ns : List ℕ) (at : ℕ) → Linked next last links at ns → AreApart ns → IsBeside at ns → stands i ns ≡ false → (at ≡ suc i → ⊥) → i + 1 < links
-    → ((y : ℕ) → (y ≡ last 0 → ⊥) → (y ≡ suc i → ⊥) → next' y ≡ next y) → next' (last 0) ≡ suc i → next' (suc i) ≡ 0
-    → ((y : ℕ) → (y ≡ 0 → ⊥) → (y ≡ suc i → ⊥) → last' y ≡ last y) → last' (suc i) ≡ last 0 → last' 0 ≡ suc i
-    → Linked next' last' links at (ns ++ i ∷ [])
+      → ((y : ℕ) → (y ≡ last 0 → ⊥) → (y ≡ suc i → ⊥) → next' y ≡ next y) → next' (last 0) ≡ suc i → next' (suc i) ≡ 0
+      → ((y : ℕ) → (y ≡ 0 → ⊥) → (y ≡ suc i → ⊥) → last' y ≡ last y) → last' (suc i) ≡ last 0 → last' 0 ≡ suc i
+      → Linked next' last' links at (ns ++ i ∷ [])
   joined i [] at linked apart beside none other room nexts next_last next_i lasts last_i last_0 = (
     ap next' (sym linked.1) ∙ next_last,
     last_i ∙ linked.1,
@@ -121,8 +121,7 @@ module _ (next last next' last' : ℕ → ℕ) (links : ℕ) where
   joined i (n ∷ ns) at linked apart beside none other room nexts next_last next_i lasts last_i last_0 =
       let end = last_in next last links n ns at linked in
       let parts = or_none (nat_eq i n) (stands i ns) none in
-      let apart_n : suc n ≡ suc i → ⊥ = λ e. true≢false (sym ((unsigned_Decides i n).1 (omega (arith, e))) ∙ parts.0) in
-      (
+      let apart_n : suc n ≡ suc i → ⊥ = λ e. true≢false (sym ((unsigned_Decides i n).1 (omega (arith, e))) ∙ parts.0) in (
         nexts at (λ e. beside end.0 end.2 (sym end.1 ∙ sym e)) other ∙ linked.0,
         lasts (suc n) (λ e. omega (arith, e)) apart_n ∙ linked.1,
         linked.2,
@@ -130,9 +129,9 @@ module _ (next last next' last' : ℕ → ℕ) (links : ℕ) where
       )
 
   pub left : (i : ℕ) (ns : List ℕ) (at : ℕ) → Linked next last links at ns → AreApart ns → IsBeside at ns → stands i ns ≡ true
-    → ((y : ℕ) → (y ≡ last (suc i) → ⊥) → next' y ≡ next y) → next' (last (suc i)) ≡ next (suc i)
-    → ((y : ℕ) → (y ≡ next (suc i) → ⊥) → last' y ≡ last y) → last' (next (suc i)) ≡ last (suc i)
-    → Linked next' last' links at (without i ns)
+      → ((y : ℕ) → (y ≡ last (suc i) → ⊥) → next' y ≡ next y) → next' (last (suc i)) ≡ next (suc i)
+      → ((y : ℕ) → (y ≡ next (suc i) → ⊥) → last' y ≡ last y) → last' (next (suc i)) ≡ last (suc i)
+      → Linked next' last' links at (without i ns)
   left i [] at linked apart beside h nexts next_last lasts last_next = absurd cc
   left i (n ∷ ns) at linked apart beside h nexts next_last lasts last_next = left_at (nat_eq i n) refl (left i ns (suc n))
     where
@@ -143,26 +142,25 @@ module _ (next last next' last' : ℕ → ℕ) (links : ℕ) where
           (ap next' (sym prev) ∙ next_last ∙ behind, ap last' (sym behind) ∙ last_next ∙ prev)
       gone same (m ∷ ms) l a s =
           let prev : last (suc i) ≡ at = ap (λ y. last (suc y)) same ∙ linked.1 in
-          let behind : next (suc i) ≡ suc m = ap (λ y. next (suc y)) same ∙ l.0 in
-          (
+          let behind : next (suc i) ≡ suc m = ap (λ y. next (suc y)) same ∙ l.0 in (
             ap next' (sym prev) ∙ next_last ∙ behind,
             ap last' (sym behind) ∙ last_next ∙ prev,
             l.2,
             framed ms (suc m) l.3
-              (nexts (suc m) (λ e. s m (at_head m ms) (e ∙ prev)))
-              (λ j in_ms. (
-                nexts (suc j) (λ e. s j (in_tail j m ms in_ms) (e ∙ prev)),
-                lasts (suc j) (λ e. apart_beside m ms a.0 j in_ms (e ∙ behind)),
-              ))
-              (lasts 0 (λ e. let no : 0 ≡ suc m = e ∙ behind in omega (arith, no))),
+                (nexts (suc m) (λ e. s m (at_head m ms) (e ∙ prev)))
+                (λ j in_ms. (
+                  nexts (suc j) (λ e. s j (in_tail j m ms in_ms) (e ∙ prev)),
+                  lasts (suc j) (λ e. apart_beside m ms a.0 j in_ms (e ∙ behind)),
+                ))
+                (lasts 0 (λ e. let no : 0 ≡ suc m = e ∙ behind in omega (arith, no))),
           )
 
       left_at : (t : Bool) → nat_eq i n ≡ t
-        → (Linked next last links (suc n) ns → AreApart ns → IsBeside (suc n) ns → stands i ns ≡ true
+          → (Linked next last links (suc n) ns → AreApart ns → IsBeside (suc n) ns → stands i ns ≡ true
           → ((y : ℕ) → (y ≡ last (suc i) → ⊥) → next' y ≡ next y) → next' (last (suc i)) ≡ next (suc i)
           → ((y : ℕ) → (y ≡ next (suc i) → ⊥) → last' y ≡ last y) → last' (next (suc i)) ≡ last (suc i)
           → Linked next' last' links (suc n) (without i ns))
-        → Linked next' last' links at (without i (n ∷ ns))
+          → Linked next' last' links at (without i (n ∷ ns))
       left_at true e more =
           let same : i ≡ n = (unsigned_Decides i n).0 e in
           let none : stands i ns ≡ false = ap (λ y. stands y ns) same ∙ apart.0 in

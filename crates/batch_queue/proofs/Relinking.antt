@@ -63,8 +63,7 @@ apart_less (n ∷ ns) i apart = split (nat_eq i n) (apart_less ns i apart.1)
 pub remade : (links : List Link) (ns : List ℕ) → 0 < length links → Linked (after links) (before links) (length links) 0 ns → AreApart ns → IsLinked links × (in_line links ≡ record { size = length links - 1; numbers = ns })
 remade links ns some linked apart =
     let few : length ns ≤ length links - 1 = length-le_from_distinct_below ns (length links - 1) (distinct ns apart) (λ q. below (after links) (before links) (length links) ns 0 q linked) in
-    let e : numbers_from (length links) (after links) (after links 0) ≡ ns = walked (after links) (before links) (length links) ns (length links) 0 linked (omega (arith, few)) in
-    (
+    let e : numbers_from (length links) (after links) (after links 0) ≡ ns = walked (after links) (before links) (length links) ns (length links) 0 linked (omega (arith, few)) in (
       record {
         ended = some;
         linked = subst (λ xs. Linked (after links) (before links) (length links) 0 xs) (sym e) linked;
@@ -126,12 +125,12 @@ beside_0 : (ns : List ℕ) → IsBeside 0 ns
 beside_0 ns m s e = omega (arith, e)
 
 pub join_is : (links : List Link) (i j : ℕ) (r1 r2 r3 : Link) → j ≡ suc i → IsLinked links → i < length links - 1 → stands i (in_line links).numbers ≡ false
-  → r1 ≡ get_or links 0 r1
-  → r2 ≡ get_or (set links j (record { before = r1.before; after = 0 })) r1.before r2
-  → r3 ≡ get_or (set (set links j (record { before = r1.before; after = 0 })) r1.before (record { before = r2.before; after = j })) 0 r3
-  → IsLinked (set (set (set links j (record { before = r1.before; after = 0 })) r1.before (record { before = r2.before; after = j })) 0 (record { before = j; after = r3.after }))
+    → r1 ≡ get_or links 0 r1
+    → r2 ≡ get_or (set links j (record { before = r1.before; after = 0 })) r1.before r2
+    → r3 ≡ get_or (set (set links j (record { before = r1.before; after = 0 })) r1.before (record { before = r2.before; after = j })) 0 r3
+    → IsLinked (set (set (set links j (record { before = r1.before; after = 0 })) r1.before (record { before = r2.before; after = j })) 0 (record { before = j; after = r3.after }))
     × (in_line (set (set (set links j (record { before = r1.before; after = 0 })) r1.before (record { before = r2.before; after = j })) 0 (record { before = j; after = r3.after }))
-      ≡ record { size = length links - 1; numbers = (in_line links).numbers ++ i ∷ [] })
+    ≡ record { size = length links - 1; numbers = (in_line links).numbers ++ i ∷ [] })
 join_is links i j r1 r2 r3 jis l room none e1 e2 e3 =
     let ns = (in_line links).numbers in
     let l1 : List Link = set links j (record { before = r1.before; after = 0 }) in
@@ -150,15 +149,15 @@ join_is links i j r1 r2 r3 jis l room none e1 e2 e3 =
     let lasts2 : (y : ℕ) → before l2 y ≡ before l1 y = written l1 r1.before r2 (record { before = r2.before; after = j }) e2 q_room1 refl in
     let apart_q : suc i ≡ r1.before → ⊥ = λ e. not_last links l i none (e ∙ q) in
     let next_off : (y : ℕ) → (y ≡ before links 0 → ⊥) → (y ≡ suc i → ⊥) → after l3 y ≡ after links y =
-      λ y a b. nexts3 y ∙ after_off l1 r1.before y _ (λ e. a (e ∙ q)) ∙ after_off links j y _ (λ e. b (e ∙ jis)) in
+    λ y a b. nexts3 y ∙ after_off l1 r1.before y _ (λ e. a (e ∙ q)) ∙ after_off links j y _ (λ e. b (e ∙ jis)) in
     let next_q : after l3 (before links 0) ≡ suc i = ap (after l3) (sym q) ∙ nexts3 r1.before ∙ after_at l1 r1.before _ q_room1 ∙ jis in
     let next_i : after l3 (suc i) ≡ 0 = nexts3 (suc i) ∙ after_off l1 r1.before (suc i) _ apart_q ∙ ap (after l1) (sym jis) ∙ after_at links j _ room0 in
     let last_off : (y : ℕ) → (y ≡ 0 → ⊥) → (y ≡ suc i → ⊥) → before l3 y ≡ before links y =
-      λ y a b. before_off l2 0 y _ a ∙ lasts2 y ∙ before_off links j y _ (λ e. b (e ∙ jis)) in
+    λ y a b. before_off l2 0 y _ a ∙ lasts2 y ∙ before_off links j y _ (λ e. b (e ∙ jis)) in
     let last_i : before l3 (suc i) ≡ before links 0 = before_off l2 0 (suc i) _ (λ e. omega (arith, e)) ∙ lasts2 (suc i) ∙ ap (before l1) (sym jis) ∙ before_at links j _ room0 ∙ q in
     let last_0 : before l3 0 ≡ suc i = before_at l2 0 _ room2 ∙ jis in
     let chain : Linked (after l3) (before l3) (length links) 0 (ns ++ i ∷ []) =
-      joined (after links) (before links) (after l3) (before l3) (length links) i ns 0 l.linked l.apart (beside_0 ns) none (λ e. omega (arith, e)) (omega (arith, room)) next_off next_q next_i last_off last_i last_0 in
+    joined (after links) (before links) (after l3) (before l3) (length links) i ns 0 l.linked l.apart (beside_0 ns) none (λ e. omega (arith, e)) (omega (arith, room)) next_off next_q next_i last_off last_i last_0 in
     let chain3 : Linked (after l3) (before l3) (length l3) 0 (ns ++ i ∷ []) = subst (λ n. Linked (after l3) (before l3) n 0 (ns ++ i ∷ [])) (sym size3) chain in
     let made = remade l3 (ns ++ i ∷ []) (omega (arith, some, size3)) chain3 (apart_more ns i l.apart none) in
     (made.0, made.1 ∙ (λ k. record { size = size3 k - 1; numbers = ns ++ i ∷ [] }))
@@ -207,12 +206,12 @@ prev_room links i l h = split (in_line links).numbers l.linked h
     split (n ∷ ns) linked s = at_test n ns linked (nat_eq i n) refl s
 
 pub leave_is : (links : List Link) (i j : ℕ) (r r2 r3 : Link) → j ≡ suc i → IsLinked links → stands i (in_line links).numbers ≡ true
-  → r ≡ get_or links j r
-  → r2 ≡ get_or links r.before r2
-  → r3 ≡ get_or (set links r.before (record { before = r2.before; after = r.after })) r.after r3
-  → IsLinked (set (set links r.before (record { before = r2.before; after = r.after })) r.after (record { before = r.before; after = r3.after }))
+    → r ≡ get_or links j r
+    → r2 ≡ get_or links r.before r2
+    → r3 ≡ get_or (set links r.before (record { before = r2.before; after = r.after })) r.after r3
+    → IsLinked (set (set links r.before (record { before = r2.before; after = r.after })) r.after (record { before = r.before; after = r3.after }))
     × (in_line (set (set links r.before (record { before = r2.before; after = r.after })) r.after (record { before = r.before; after = r3.after }))
-      ≡ record { size = length links - 1; numbers = without i (in_line links).numbers })
+    ≡ record { size = length links - 1; numbers = without i (in_line links).numbers })
 leave_is links i j r r2 r3 jis l h e1 e2 e3 =
     let ns = (in_line links).numbers in
     let l1 : List Link = set links r.before (record { before = r2.before; after = r.after }) in
@@ -232,7 +231,7 @@ leave_is links i j r r2 r3 jis l h e1 e2 e3 =
     let last_off : (y : ℕ) → (y ≡ after links (suc i) → ⊥) → before l2 y ≡ before links y = λ y no. before_off l1 r.after y _ (λ e. no (e ∙ a)) ∙ lasts1 y in
     let last_a : before l2 (after links (suc i)) ≡ before links (suc i) = ap (before l2) (sym a) ∙ before_at l1 r.after _ a_room ∙ p in
     let chain : Linked (after l2) (before l2) (length links) 0 (without i ns) =
-      left (after links) (before links) (after l2) (before l2) (length links) i ns 0 l.linked l.apart (beside_0 ns) h next_off next_p last_off last_a in
+    left (after links) (before links) (after l2) (before l2) (length links) i ns 0 l.linked l.apart (beside_0 ns) h next_off next_p last_off last_a in
     let chain2 : Linked (after l2) (before l2) (length l2) 0 (without i ns) = subst (λ n. Linked (after l2) (before l2) n 0 (without i ns)) (sym size2) chain in
     let made = remade l2 (without i ns) (omega (arith, some, size2)) chain2 (apart_less ns i l.apart) in
     (made.0, made.1 ∙ (λ k. record { size = size2 k - 1; numbers = without i ns }))
@@ -251,7 +250,7 @@ grow_is links w l =
     let nexts : (y : ℕ) → y < length links → after more y ≡ after links y = λ y k. ap (λ (x : Link). x.after) (get_or_append_left links (w ∷ []) no_link y k) in
     let lasts : (y : ℕ) → y < length links → before more y ≡ before links y = λ y k. ap (λ (x : Link). x.before) (get_or_append_left links (w ∷ []) no_link y k) in
     let chain : Linked (after more) (before more) (length links) 0 ns =
-      framed (after links) (before links) (after more) (before more) (length links) ns 0 l.linked (nexts 0 some) (λ m s. (nexts (suc m) (in_room links m l s), lasts (suc m) (in_room links m l s))) (lasts 0 some) in
+    framed (after links) (before links) (after more) (before more) (length links) ns 0 l.linked (nexts 0 some) (λ m s. (nexts (suc m) (in_room links m l s), lasts (suc m) (in_room links m l s))) (lasts 0 some) in
     let made = remade more ns (omega (arith, size)) (wider (after more) (before more) (length links) (length more) ns 0 (omega (arith, size)) chain) l.apart in
     let counted : length more - 1 ≡ length links - 1 + 1 = omega (arith, size, some) in
     (made.0, made.1 ∙ (λ k. record { size = counted k; numbers = ns }))

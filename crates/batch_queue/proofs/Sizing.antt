@@ -17,7 +17,7 @@ groups_le zero m n h = omega arith
 groups_le (suc more) m n h = split (nat_lt m 128) (nat_lt n 128) refl refl (groups_le more (m / 128) (n / 128) (grind arith)) (groups_of-some more (n / 128))
   where
     split : (t u : Bool) → nat_lt m 128 ≡ t → nat_lt n 128 ≡ u → length (groups_of more (m / 128)) ≤ length (groups_of more (n / 128)) → 1 ≤ length (groups_of more (n / 128))
-      → length (cond t (m ∷ []) ((m % 128 + 128) ∷ groups_of more (m / 128))) ≤ length (cond u (n ∷ []) ((n % 128 + 128) ∷ groups_of more (n / 128)))
+        → length (cond t (m ∷ []) ((m % 128 + 128) ∷ groups_of more (m / 128))) ≤ length (cond u (n ∷ []) ((n % 128 + 128) ∷ groups_of more (n / 128)))
     split true true e f k some = omega arith
     split true false e f k some = omega (arith, some)
     split false false e f k some = omega (arith, k)

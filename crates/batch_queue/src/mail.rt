@@ -191,8 +191,7 @@ impl Mail {
 
     /// Copies of all letters: by address in byte order of its canonical spelling, and each address' in order of arrival, those
     /// in flight first.
-    pub fn letters(&self) -> Mem<List<Letter>>
-    {
+    pub fn letters(&self) -> Mem<List<Letter>> {
         let mut gathered = Vec::with_capacity(self.alloc, self.boxes.len())?;
         for (address, kept) in &self.boxes {
             gathered.push(Gathered {

@@ -13,5 +13,5 @@ alike false true e = absurd cc
 pub returns-then-is_ready-was_ready : goal.returns-then-is_ready-was_ready
 returns-then-is_ready-was_ready c =
     let same = lined_same c.args.kept.now.number c.args.line.now.numbers (waits c.args.kept.now.letters c.args.kept.now.in_flight)
-      (c.requires.before ∙ sym (alike c.is_ready-is_ready.result c.args.was_ready c.if-is_ready-was_ready.true) ∙ c.is_ready-is_ready.ensures) in
+    (c.requires.before ∙ sym (alike c.is_ready-is_ready.result c.args.was_ready c.if-is_ready-was_ready.true) ∙ c.is_ready-is_ready.ensures) in
     (λ i. record { size = c.args.line.now.size; numbers = sym same i })

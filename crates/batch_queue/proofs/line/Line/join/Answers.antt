@@ -18,12 +18,12 @@ invariant_of-self c =
     let view = c.self.view_is in
     let known : c.args.number < length c.self.inside.links.items - 1 = subst (λ (n : ℕ). c.args.number < n) (sym (ap (λ (v : InLine). v.size) view)) c.requires.known in
     (join_is c.self.inside.links.items c.args.number (c.args.number + 1) c.index.result.now c.index_mut-2.result.now c.index_mut-3.result.now (add-one c.args.number) c.self.invariant known
-      (ap (λ (v : InLine). stands c.args.number v.numbers) view ∙ c.requires.apart) c.index.ensures c.index_mut-2.ensures.value c.index_mut-3.ensures.value).0
+    (ap (λ (v : InLine). stands c.args.number v.numbers) view ∙ c.requires.apart) c.index.ensures c.index_mut-2.ensures.value c.index_mut-3.ensures.value).0
 
 pub returns : goal.returns
 returns c =
     let view = c.self.view_is in
     let known : c.args.number < length c.self.inside.links.items - 1 = subst (λ (n : ℕ). c.args.number < n) (sym (ap (λ (v : InLine). v.size) view)) c.requires.known in
     (join_is c.self.inside.links.items c.args.number (c.args.number + 1) c.index.result.now c.index_mut-2.result.now c.index_mut-3.result.now (add-one c.args.number) c.self.invariant known
-      (ap (λ (v : InLine). stands c.args.number v.numbers) view ∙ c.requires.apart) c.index.ensures c.index_mut-2.ensures.value c.index_mut-3.ensures.value).1
+    (ap (λ (v : InLine). stands c.args.number v.numbers) view ∙ c.requires.apart) c.index.ensures c.index_mut-2.ensures.value c.index_mut-3.ensures.value).1
     ∙ (λ k. record { size = (view k).size; numbers = (view k).numbers ++ c.args.number ∷ [] })

@@ -25,7 +25,7 @@ index_mut-requires c =
     let h = ap (λ (v : InLine). stands c.args.number v.numbers) c.self.view_is ∙ c.requires in
     let at : suc c.args.number < length links = in_room links c.args.number c.self.invariant h in
     let is : c.index.result.now.before ≡ before links (suc c.args.number) =
-      ap (λ (l : Link). l.before) (c.index.ensures ∙ ap (λ (n : ℕ). get_or links n c.index.result.now) (add-one c.args.number) ∙ get_or_default links (suc c.args.number) c.index.result.now no_link at) in
+    ap (λ (l : Link). l.before) (c.index.ensures ∙ ap (λ (n : ℕ). get_or links n c.index.result.now) (add-one c.args.number) ∙ get_or_default links (suc c.args.number) c.index.result.now no_link at) in
     let room = prev_room links c.args.number c.self.invariant h in
     let sized : length links ≡ c.self.inside.links.len = sym c.self.inside.links.ok.0 in
     omega (arith, is, room, sized)
@@ -36,7 +36,7 @@ index_mut-requires-2 c =
     let h = ap (λ (v : InLine). stands c.args.number v.numbers) c.self.view_is ∙ c.requires in
     let at : suc c.args.number < length links = in_room links c.args.number c.self.invariant h in
     let is : c.index.result.now.after ≡ after links (suc c.args.number) =
-      ap (λ (l : Link). l.after) (c.index.ensures ∙ ap (λ (n : ℕ). get_or links n c.index.result.now) (add-one c.args.number) ∙ get_or_default links (suc c.args.number) c.index.result.now no_link at) in
+    ap (λ (l : Link). l.after) (c.index.ensures ∙ ap (λ (n : ℕ). get_or links n c.index.result.now) (add-one c.args.number) ∙ get_or_default links (suc c.args.number) c.index.result.now no_link at) in
     let room = next_room links c.args.number c.self.invariant h in
     let sized : length links ≡ c.self.inside.links.len = sym c.self.inside.links.ok.0 in
     omega (arith, is, room, sized)
@@ -44,11 +44,11 @@ index_mut-requires-2 c =
 pub invariant_of-self : goal.invariant_of-self
 invariant_of-self c =
     (leave_is c.self.inside.links.items c.args.number (c.args.number + 1) c.index.result.now c.index_mut.result.now c.index_mut-2.result.now (add-one c.args.number) c.self.invariant
-      (ap (λ (v : InLine). stands c.args.number v.numbers) c.self.view_is ∙ c.requires) c.index.ensures c.index_mut.ensures.value c.index_mut-2.ensures.value).0
+    (ap (λ (v : InLine). stands c.args.number v.numbers) c.self.view_is ∙ c.requires) c.index.ensures c.index_mut.ensures.value c.index_mut-2.ensures.value).0
 
 pub returns : goal.returns
 returns c =
     let view = c.self.view_is in
     (leave_is c.self.inside.links.items c.args.number (c.args.number + 1) c.index.result.now c.index_mut.result.now c.index_mut-2.result.now (add-one c.args.number) c.self.invariant
-      (ap (λ (v : InLine). stands c.args.number v.numbers) view ∙ c.requires) c.index.ensures c.index_mut.ensures.value c.index_mut-2.ensures.value).1
+    (ap (λ (v : InLine). stands c.args.number v.numbers) view ∙ c.requires) c.index.ensures c.index_mut.ensures.value c.index_mut-2.ensures.value).1
     ∙ (λ k. record { size = (view k).size; numbers = without c.args.number (view k).numbers })

@@ -25,9 +25,9 @@ line_up-requires-clause-before c =
     ap (λ (b : Waiting). stands b.number c.self.inside.line.numbers) c.in_default-push.ensures.ok ∙ box.lined ∙ sym c.is_ready-was_ready.ensures
 
 changes : (c : goal.After-self-2-1) → Changes
-  (record { boxes = c.self.inside.boxes.entries; names = c.self.inside.names.items; line = c.self.inside.line })
-  (record { boxes = (c.get_mut.follows.lender c.push.new.self).entries; names = c.self.inside.names.items; line = c.line_up.new.line })
-  c.args.letter.target c.in-Some.kept.now c.push.new.self
+    (record { boxes = c.self.inside.boxes.entries; names = c.self.inside.names.items; line = c.self.inside.line })
+    (record { boxes = (c.get_mut.follows.lender c.push.new.self).entries; names = c.self.inside.names.items; line = c.line_up.new.line })
+    c.args.letter.target c.in-Some.kept.now c.push.new.self
 changes c =
     let box = c.self.invariant.boxed c.args.letter.target c.in-Some.kept.now (sym c.in-Some.ensures.value) in
     let number : c.push.new.self.number ≡ c.in-Some.kept.now.number = ap (λ (b : Waiting). b.number) c.in_default-push.ensures.ok in
@@ -37,10 +37,10 @@ changes c =
       writes = ((c.get_mut.follows.holds c.push.new.self).3 (subst IsSome c.in-Some.ensures.value refl)).0;
       numbered = number;
       owned = ap (λ (b : Waiting). list_all (λ letter. same_address c.args.letter.target letter.target) b.letters) c.in_default-push.ensures.ok
-        ∙ all_pushed (λ letter. same_address c.args.letter.target letter.target) c.in-Some.kept.now.letters c.args.letter box.owned (same_itself c.args.letter.target);
+          ∙ all_pushed (λ letter. same_address c.args.letter.target letter.target) c.in-Some.kept.now.letters c.args.letter box.owned (same_itself c.args.letter.target);
       flown = (let same : c.push.new.self.in_flight ≡ c.in-Some.kept.now.in_flight = ap (λ (b : Waiting). b.in_flight) c.in_default-push.ensures.ok in
-        let more : length c.push.new.self.letters ≡ length c.in-Some.kept.now.letters + 1 = ap (λ (b : Waiting). length b.letters) c.in_default-push.ensures.ok ∙ length-append c.in-Some.kept.now.letters (c.args.letter ∷ []) in
-        let flown = box.flown in omega (arith, same, more, flown));
+          let more : length c.push.new.self.letters ≡ length c.in-Some.kept.now.letters + 1 = ap (λ (b : Waiting). length b.letters) c.in_default-push.ensures.ok ∙ length-append c.in-Some.kept.now.letters (c.args.letter ∷ []) in
+          let flown = box.flown in omega (arith, same, more, flown));
       names = refl;
       line = c.line_up.ensures;
     }
@@ -54,23 +54,23 @@ returns-clause-ok c =
     let kept : Kept = record { boxes = c.self.inside.boxes.entries; names = c.self.inside.names.items; line = c.self.inside.line } in
     let here = sym c.in-Some.ensures.value in
     let letters : c.push.new.self.letters ≡ (post_of kept).letters a ++ c.args.letter ∷ [] =
-      ap (λ (b : Waiting). b.letters) c.in_default-push.ensures.ok ∙ sym (ap (λ ls. ls ++ c.args.letter ∷ []) (letters_here kept a c.in-Some.kept.now here)) in
+    ap (λ (b : Waiting). b.letters) c.in_default-push.ensures.ok ∙ sym (ap (λ ls. ls ++ c.args.letter ∷ []) (letters_here kept a c.in-Some.kept.now here)) in
     let flight : c.push.new.self.in_flight ≡ (post_of kept).in_flight a = ap (λ (b : Waiting). b.in_flight) c.in_default-push.ensures.ok ∙ sym (in_flight_here kept a c.in-Some.kept.now here) in
     post_after _ _ _ _ _ (changes c)
     ∙ (λ i. with_letters a (letters i) (flight i) (post_of kept))
     ∙ ap (λ k. put c.args.letter (post_of k)) c.self.view_is
 
 unchanged : (c : goal.In-Err) →
-  IsKept (record { boxes = (c.get_mut.follows.lender c.push.new.self).entries; names = c.self.inside.names.items; line = c.self.inside.line })
-  × (post_of (record { boxes = (c.get_mut.follows.lender c.push.new.self).entries; names = c.self.inside.names.items; line = c.self.inside.line })
+    IsKept (record { boxes = (c.get_mut.follows.lender c.push.new.self).entries; names = c.self.inside.names.items; line = c.self.inside.line })
+    × (post_of (record { boxes = (c.get_mut.follows.lender c.push.new.self).entries; names = c.self.inside.names.items; line = c.self.inside.line })
     ≡ post_of (record { boxes = c.self.inside.boxes.entries; names = c.self.inside.names.items; line = c.self.inside.line }))
 unchanged c =
     let kept : Kept = record { boxes = c.self.inside.boxes.entries; names = c.self.inside.names.items; line = c.self.inside.line } in
     let after : Kept = record { boxes = (c.get_mut.follows.lender c.push.new.self).entries; names = c.self.inside.names.items; line = c.self.inside.line } in
     same_boxes kept after c.self.invariant
-      (written_back kept after c.args.letter.target c.in-Some.kept.now c.push.new.self (sym c.in-Some.ensures.value) c.in-Err.ensures.err
-        ((c.get_mut.follows.holds c.push.new.self).3 (subst IsSome c.in-Some.ensures.value refl)).0)
-      refl refl (omega arith)
+    (written_back kept after c.args.letter.target c.in-Some.kept.now c.push.new.self (sym c.in-Some.ensures.value) c.in-Err.ensures.err
+    ((c.get_mut.follows.holds c.push.new.self).3 (subst IsSome c.in-Some.ensures.value refl)).0)
+    refl refl (omega arith)
 
 pub invariant_of-self-in-Err : goal.invariant_of-self-in-Err
 invariant_of-self-in-Err c = (unchanged c).0

@@ -15,17 +15,17 @@ none_there (Some box) e = absurd (true≢false e)
 pub invariant_of-self : goal.invariant_of-self
 invariant_of-self c =
     (same_boxes (record { boxes = c.self.inside.boxes.entries; names = c.self.inside.names.items; line = c.self.inside.line })
-      (record { boxes = c.self.inside.boxes.entries; names = c.make_room.new.names.items; line = c.make_room.new.line })
-      c.self.invariant (λ b. refl) c.make_room.ensures.names c.make_room.ensures.line c.make_room.ensures.size).0
+    (record { boxes = c.self.inside.boxes.entries; names = c.make_room.new.names.items; line = c.make_room.new.line })
+    c.self.invariant (λ b. refl) c.make_room.ensures.names c.make_room.ensures.line c.make_room.ensures.size).0
 
 refused : (c : goal.After-drop-name-in_err-insert-3) →
-  IsKept (record { boxes = c.insert.new.self.entries; names = c.make_room.new.names.items; line = c.make_room.new.line })
-  × (post_of (record { boxes = c.insert.new.self.entries; names = c.make_room.new.names.items; line = c.make_room.new.line })
+    IsKept (record { boxes = c.insert.new.self.entries; names = c.make_room.new.names.items; line = c.make_room.new.line })
+    × (post_of (record { boxes = c.insert.new.self.entries; names = c.make_room.new.names.items; line = c.make_room.new.line })
     ≡ post_of (record { boxes = c.self.inside.boxes.entries; names = c.self.inside.names.items; line = c.self.inside.line }))
 refused c =
     same_boxes (record { boxes = c.self.inside.boxes.entries; names = c.self.inside.names.items; line = c.self.inside.line })
-      (record { boxes = c.insert.new.self.entries; names = c.make_room.new.names.items; line = c.make_room.new.line })
-      c.self.invariant (λ b. ap (lookup (is_at (address_order b))) c.in_err-insert.ensures.err) c.make_room.ensures.names c.make_room.ensures.line c.make_room.ensures.size
+    (record { boxes = c.insert.new.self.entries; names = c.make_room.new.names.items; line = c.make_room.new.line })
+    c.self.invariant (λ b. ap (lookup (is_at (address_order b))) c.in_err-insert.ensures.err) c.make_room.ensures.names c.make_room.ensures.line c.make_room.ensures.size
 
 pub invariant_of-self-in_err-insert : goal.invariant_of-self-in_err-insert
 invariant_of-self-in_err-insert c = (refused c).0
@@ -34,8 +34,8 @@ pub returns-in_err-insert : goal.returns-in_err-insert
 returns-in_err-insert c = (refused c).1 ∙ ap post_of c.self.view_is
 
 made : (c : goal.After-add_name) →
-  IsKept (record { boxes = c.insert.new.self.entries; names = c.add_name.new.names.items; line = c.make_room.new.line })
-  × (post_of (record { boxes = c.insert.new.self.entries; names = c.add_name.new.names.items; line = c.make_room.new.line })
+    IsKept (record { boxes = c.insert.new.self.entries; names = c.add_name.new.names.items; line = c.make_room.new.line })
+    × (post_of (record { boxes = c.insert.new.self.entries; names = c.add_name.new.names.items; line = c.make_room.new.line })
     ≡ post_of (record { boxes = c.self.inside.boxes.entries; names = c.self.inside.names.items; line = c.self.inside.line }))
 made c =
     let before : Kept = record { boxes = c.self.inside.boxes.entries; names = c.self.inside.names.items; line = c.self.inside.line } in
@@ -50,8 +50,8 @@ made c =
     let box : c.new-kept.result ≡ record { letters = []; in_flight = 0; number = length c.make_room.new.names.items } = c.new-kept.ensures ∙ (λ i. record { letters = []; in_flight = 0; number = number i }) in
     let fits : length c.make_room.new.names.items < c.make_room.new.line.size = let k = c.in_ok-make_room.ensures.number in let l = c.make_room.new.names.ok.0 in omega (arith, k, l) in
     let now = new_box room after a c.new-kept.result wider.0 none box
-      (λ b. c.in_ok-insert.ensures.updates.0 b ∙ ap (λ (k : Address). cond (is_at (address_order k) b) (Some c.new-kept.result) (box_of room b)) key)
-      (c.add_name.ensures ∙ ap (λ (n : Address). c.make_room.new.names.items ++ n ∷ []) name) refl fits in
+    (λ b. c.in_ok-insert.ensures.updates.0 b ∙ ap (λ (k : Address). cond (is_at (address_order k) b) (Some c.new-kept.result) (box_of room b)) key)
+    (c.add_name.ensures ∙ ap (λ (n : Address). c.make_room.new.names.items ++ n ∷ []) name) refl fits in
     (now.0, now.1 ∙ wider.1)
 
 pub invariant_of-self-2 : goal.invariant_of-self-2

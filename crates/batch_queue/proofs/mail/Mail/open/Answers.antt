@@ -29,14 +29,14 @@ flown c =
     let kept : Kept = record { boxes = c.self.inside.boxes.entries; names = c.self.inside.names.items; line = c.self.inside.line } in
     let count : c.open.new.self.in_flight ≡ c.args.count = ap (λ (b : Waiting). b.in_flight) c.open.ensures in
     let letters : length c.open.new.self.letters ≡ length ((post_of c.args.self.now).letters c.args.address.now) =
-      ap length (ap (λ (b : Waiting). b.letters) c.open.ensures ∙ sym (letters_here kept c.args.address.now c.in-Some.kept.now (sym c.in-Some.ensures.value)) ∙ ap (λ k. (post_of k).letters c.args.address.now) c.self.view_is) in
+    ap length (ap (λ (b : Waiting). b.letters) c.open.ensures ∙ sym (letters_here kept c.args.address.now c.in-Some.kept.now (sym c.in-Some.ensures.value)) ∙ ap (λ k. (post_of k).letters c.args.address.now) c.self.view_is) in
     let most = c.requires.most in
     omega (arith, count, letters, most)
 
 changes : (c : goal.After-self-in-Some-1) → Changes
-  (record { boxes = c.self.inside.boxes.entries; names = c.self.inside.names.items; line = c.self.inside.line })
-  (record { boxes = (c.get_mut.follows.lender c.open.new.self).entries; names = c.self.inside.names.items; line = c.line_up.new.line })
-  c.args.address.now c.in-Some.kept.now c.open.new.self
+    (record { boxes = c.self.inside.boxes.entries; names = c.self.inside.names.items; line = c.self.inside.line })
+    (record { boxes = (c.get_mut.follows.lender c.open.new.self).entries; names = c.self.inside.names.items; line = c.line_up.new.line })
+    c.args.address.now c.in-Some.kept.now c.open.new.self
 changes c =
     let box = c.self.invariant.boxed c.args.address.now c.in-Some.kept.now (sym c.in-Some.ensures.value) in
     let number : c.open.new.self.number ≡ c.in-Some.kept.now.number = ap (λ (b : Waiting). b.number) c.open.ensures in
@@ -46,7 +46,7 @@ changes c =
       writes = ((c.get_mut.follows.holds c.open.new.self).3 (subst IsSome c.in-Some.ensures.value refl)).0;
       numbered = number;
       owned = ap (λ (b : Waiting). list_all (λ letter. same_address c.args.address.now letter.target) b.letters) c.open.ensures
-        ∙ box.owned;
+          ∙ box.owned;
       flown = flown c;
       names = refl;
       line = c.line_up.ensures;

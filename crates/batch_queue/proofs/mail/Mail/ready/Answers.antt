@@ -37,7 +37,7 @@ returns-in-Some-clause-some c =
     let kept : Kept = record { boxes = c.self.inside.boxes.entries; names = c.self.inside.names.items; line = c.self.inside.line } in
     let first = first_ready kept c.in-Some.number c.self.invariant (sym c.in-Some.ensures) in
     let is : option_copied c.name_at.result ≡ Some (name_of kept.names c.in-Some.number) = c.name_at.ensures ∙ ap (λ (ns : List Address). slice_get ns c.in-Some.number) c.as_slice.ensures.value
-      ∙ read_within c.self.inside.names.items c.in-Some.number empty_address first.0 in
+    ∙ read_within c.self.inside.names.items c.in-Some.number empty_address first.0 in
     subst (λ (k : Kept). IfSome c.name_at.result (λ x. is_ready (post_of k) x.now ≡ true)) c.self.view_is (named c.name_at.result (name_of kept.names c.in-Some.number) kept is first.1)
 
 pub returns-in-Some-clause-none : goal.returns-in-Some-clause-none
@@ -45,8 +45,7 @@ returns-in-Some-clause-none c =
     let kept : Kept = record { boxes = c.self.inside.boxes.entries; names = c.self.inside.names.items; line = c.self.inside.line } in
     let first = first_ready kept c.in-Some.number c.self.invariant (sym c.in-Some.ensures) in
     let is : option_copied c.name_at.result ≡ Some (name_of kept.names c.in-Some.number) = c.name_at.ensures ∙ ap (λ (ns : List Address). slice_get ns c.in-Some.number) c.as_slice.ensures.value
-      ∙ read_within c.self.inside.names.items c.in-Some.number empty_address first.0 in
-    (
+    ∙ read_within c.self.inside.names.items c.in-Some.number empty_address first.0 in (
       λ none. absurd (not_none c.name_at.result (name_of kept.names c.in-Some.number) is none),
       λ all. absurd (true≢false (sym first.1 ∙ ap (λ (k : Kept). is_ready (post_of k) (name_of kept.names c.in-Some.number)) c.self.view_is ∙ all (name_of kept.names c.in-Some.number))),
     )
@@ -57,8 +56,7 @@ returns-in-None-clause-first c =
 
 pub returns-in-None-clause-none : goal.returns-in-None-clause-none
 returns-in-None-clause-none c =
-    let kept : Kept = record { boxes = c.self.inside.boxes.entries; names = c.self.inside.names.items; line = c.self.inside.line } in
-    (
+    let kept : Kept = record { boxes = c.self.inside.boxes.entries; names = c.self.inside.names.items; line = c.self.inside.line } in (
       λ none address. sym (ap (λ (k : Kept). is_ready (post_of k) address) c.self.view_is) ∙ none_ready kept c.self.invariant (sym c.in-None.ensures) address,
       λ all. search rules,
     )

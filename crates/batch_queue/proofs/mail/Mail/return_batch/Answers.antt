@@ -24,9 +24,9 @@ line_up-requires-clause-before c =
     ap (λ (b : Waiting). stands b.number c.self.inside.line.numbers) c.open.ensures ∙ box.lined ∙ sym c.is_ready-was_ready.ensures
 
 changes : (c : goal.After-self-in-Some-1) → Changes
-  (record { boxes = c.self.inside.boxes.entries; names = c.self.inside.names.items; line = c.self.inside.line })
-  (record { boxes = (c.get_mut.follows.lender c.open.new.self).entries; names = c.self.inside.names.items; line = c.line_up.new.line })
-  c.args.address.now c.in-Some.kept.now c.open.new.self
+    (record { boxes = c.self.inside.boxes.entries; names = c.self.inside.names.items; line = c.self.inside.line })
+    (record { boxes = (c.get_mut.follows.lender c.open.new.self).entries; names = c.self.inside.names.items; line = c.line_up.new.line })
+    c.args.address.now c.in-Some.kept.now c.open.new.self
 changes c =
     let box = c.self.invariant.boxed c.args.address.now c.in-Some.kept.now (sym c.in-Some.ensures.value) in
     let number : c.open.new.self.number ≡ c.in-Some.kept.now.number = ap (λ (b : Waiting). b.number) c.open.ensures in
@@ -36,7 +36,7 @@ changes c =
       writes = ((c.get_mut.follows.holds c.open.new.self).3 (subst IsSome c.in-Some.ensures.value refl)).0;
       numbered = number;
       owned = ap (λ (b : Waiting). list_all (λ letter. same_address c.args.address.now letter.target) b.letters) c.open.ensures
-        ∙ box.owned;
+          ∙ box.owned;
       flown = (let none : c.open.new.self.in_flight ≡ 0 = ap (λ (b : Waiting). b.in_flight) c.open.ensures in omega (arith, none));
       names = refl;
       line = c.line_up.ensures;

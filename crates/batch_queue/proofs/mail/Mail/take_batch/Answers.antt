@@ -24,9 +24,9 @@ line_up-requires-clause-before c =
     ap (λ (b : Waiting). stands b.number c.self.inside.line.numbers) c.take.ensures ∙ box.lined ∙ sym c.is_ready-was_ready.ensures
 
 changes : (c : goal.After-self-in-Some-1) → Changes
-  (record { boxes = c.self.inside.boxes.entries; names = c.self.inside.names.items; line = c.self.inside.line })
-  (record { boxes = (c.get_mut.follows.lender c.take.new.self).entries; names = c.self.inside.names.items; line = c.line_up.new.line })
-  c.args.address.now c.in-Some.kept.now c.take.new.self
+    (record { boxes = c.self.inside.boxes.entries; names = c.self.inside.names.items; line = c.self.inside.line })
+    (record { boxes = (c.get_mut.follows.lender c.take.new.self).entries; names = c.self.inside.names.items; line = c.line_up.new.line })
+    c.args.address.now c.in-Some.kept.now c.take.new.self
 changes c =
     let box = c.self.invariant.boxed c.args.address.now c.in-Some.kept.now (sym c.in-Some.ensures.value) in
     let number : c.take.new.self.number ≡ c.in-Some.kept.now.number = ap (λ (b : Waiting). b.number) c.take.ensures in
@@ -36,7 +36,7 @@ changes c =
       writes = ((c.get_mut.follows.holds c.take.new.self).3 (subst IsSome c.in-Some.ensures.value refl)).0;
       numbered = number;
       owned = ap (λ (b : Waiting). list_all (λ letter. same_address c.args.address.now letter.target) b.letters) c.take.ensures
-        ∙ all_dropped (λ letter. same_address c.args.address.now letter.target) c.in-Some.kept.now.in_flight c.in-Some.kept.now.letters box.owned;
+          ∙ all_dropped (λ letter. same_address c.args.address.now letter.target) c.in-Some.kept.now.in_flight c.in-Some.kept.now.letters box.owned;
       flown = (let none : c.take.new.self.in_flight ≡ 0 = ap (λ (b : Waiting). b.in_flight) c.take.ensures in omega (arith, none));
       names = refl;
       line = c.line_up.ensures;
@@ -51,7 +51,7 @@ returns-in-Some c =
     let kept : Kept = record { boxes = c.self.inside.boxes.entries; names = c.self.inside.names.items; line = c.self.inside.line } in
     let here = sym c.in-Some.ensures.value in
     let letters : c.take.new.self.letters ≡ drop ((post_of kept).in_flight a) ((post_of kept).letters a) =
-      ap (λ (b : Waiting). b.letters) c.take.ensures ∙ sym (λ i. drop (in_flight_here kept a c.in-Some.kept.now here i) (letters_here kept a c.in-Some.kept.now here i)) in
+    ap (λ (b : Waiting). b.letters) c.take.ensures ∙ sym (λ i. drop (in_flight_here kept a c.in-Some.kept.now here i) (letters_here kept a c.in-Some.kept.now here i)) in
     post_after _ _ _ _ _ (changes c)
     ∙ (λ i. with_letters a (letters i) ((c.take.ensures i).in_flight) (post_of kept))
     ∙ ap (λ k. taken a (post_of k)) c.self.view_is
