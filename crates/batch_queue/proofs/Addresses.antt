@@ -1,5 +1,5 @@
 -- The order of addresses tests sameness.
-use Rattle.std.proofs.Common.{◌≡◌, subst, Bool, true}
+use Rattle.std.proofs.Common.{◌≡◌, subst, true}
 use Rattle.std.specs.declared.cmp.Ordering.{Ordering}
 use Rattle.std.specs.Ordering.{is_eq, nat_cmp}
 use Rattle.std.specs.Cmp.{IsTotalOrder, eq_by_cmp_equiv}

@@ -1,6 +1,6 @@
 -- What a change of one box makes of all that is kept.
 use Rattle.std.proofs.Common.{◌≡◌, ◌∙◌, sym, ap, subst, refl, ℕ, zero, suc, ◌+◌, ◌-◌, ◌<◌, ◌≤◌, Bool, true, false, cond, true≢false, List, [], ◌∷◌, ◌++◌, length, map, filter, drop, get_or, slice_get, Option, Some, None, arith, length-append}
-use Rattle.std.specs.Prelude.{nat_eq, not, ◌||◌, ◌&&◌, ◌==◌}
+use Rattle.std.specs.Prelude.{nat_eq, not, ◌||◌, ◌&&◌}
 use Rattle.std.specs.List.{list_any, list_all}
 use Rattle.std.specs.Option.{option_map, option_map_or}
 use Rattle.std.specs.Cmp.{unsigned_Decides}
@@ -13,10 +13,10 @@ use Rattle.std.specs.BTreeMap.{is_at}
 use Rattle.typed_values.specs.Tables.{empty_address}
 use Rattle.batch_queue.specs.Boxes.{Waiting}
 use Rattle.batch_queue.specs.Lines.{InLine, stands, without}
-use Rattle.batch_queue.specs.Post.{Post, waits, is_ready, lined_up, with_letters}
+use Rattle.batch_queue.specs.Post.{waits, is_ready, lined_up, with_letters}
 use Rattle.batch_queue.specs.Kept.{Kept, address_order, box_of, name_of, post_of, IsBoxOf, IsKept}
 use Rattle.batch_queue.proofs.Linking.{at_head, in_tail, without_none}
-use Rattle.batch_queue.proofs.Addresses.{address_test, same_itself}
+use Rattle.batch_queue.proofs.Addresses.{address_test}
 
 by_test : {P : Type 0} (t : Bool) → (t ≡ true → P) → (t ≡ false → P) → P
 by_test true f g = f refl

@@ -1,14 +1,14 @@
 -- What a change of links makes of the line.
-use Rattle.std.proofs.Common.{◌≡◌, ◌∙◌, sym, ap, subst, refl, ℕ, zero, suc, ◌+◌, ◌-◌, ◌<◌, ◌≤◌, ◌⊎◌, inl, inr, Bool, true, false, cond, true≢false, List, [], ◌∷◌, ◌++◌, length, filter, get_or, set, arith, length-append}
+use Rattle.std.proofs.Common.{◌≡◌, ◌∙◌, sym, ap, subst, refl, ℕ, suc, ◌+◌, ◌-◌, ◌<◌, ◌≤◌, ◌⊎◌, inl, inr, Bool, true, false, cond, true≢false, List, [], ◌∷◌, ◌++◌, length, get_or, set, arith, length-append}
 use Rattle.std.specs.Prelude.{nat_eq, not, ◌||◌}
-use Rattle.std.specs.List.{list_any, IsDistinct, AllByRecursion}
+use Rattle.std.specs.List.{IsDistinct, AllByRecursion}
 use Rattle.std.specs.Cmp.{unsigned_Decides}
 use Rattle.std.proofs.lemmas.List.{get_or-set_same, get_or-set_other, get_or_default, get_or_append_left, length-set}
 use Rattle.std.proofs.lemmas.List.Folds.{list_any-append}
 use Rattle.std.proofs.lemmas.Map.Steps.{length-le_from_distinct_below}
 use Rattle.batch_queue.specs.declared.line.Link.{Link}
-use Rattle.batch_queue.specs.Lines.{InLine, no_link, after, before, in_line, numbers_from, Linked, AreApart, IsLinked, stands, without}
-use Rattle.batch_queue.proofs.Linking.{walked, below, last_in, prev_in, next_in, joined, left, framed, at_head, in_tail, differ, IsBeside}
+use Rattle.batch_queue.specs.Lines.{no_link, after, before, in_line, numbers_from, Linked, AreApart, IsLinked, stands, without}
+use Rattle.batch_queue.proofs.Linking.{walked, below, last_in, prev_in, next_in, joined, left, framed, differ, IsBeside}
 
 -- ---- numbers that stand apart
 

@@ -1,7 +1,6 @@
 -- The length of a batch's request.
-use Rattle.std.proofs.Common.{◌≡◌, ◌∙◌, sym, ap, refl, ℕ, ◌+◌, ◌-◌, ◌*◌, ◌<◌, ◌≤◌, ◌^◌, List, [], ◌∷◌, ◌++◌, length, map, sum_by, min, append-nil, arith, length-append}
+use Rattle.std.proofs.Common.{◌≡◌, ◌∙◌, sym, ap, refl, ℕ, ◌+◌, ◌-◌, ◌*◌, ◌<◌, ◌≤◌, ◌^◌, List, [], ◌∷◌, length, map, min, append-nil, arith, length-append}
 use Rattle.std.proofs.lemmas.List.Sums.{sum_by-cons}
-use Rattle.proto_wire.specs.Varint.{varint}
 use Rattle.proto_wire.specs.Counts.{varint-some}
 use Rattle.proto_wire.specs.Record.{bytes_record}
 use Rattle.proto_wire.specs.Message.{spelling, spelled_message, spelled_messages, capped}
@@ -15,7 +14,6 @@ use Rattle.request_reply.specs.Spelling.{to_spelling}
 use Rattle.batch_queue.specs.declared.limits.Limits.{Limits}
 use Rattle.batch_queue.specs.Batches.{enclosed, records_size, request_size, IsBatch}
 use Rattle.batch_queue.specs.Laws.{head_of}
-use Rattle.batch_queue.proofs.Sizing.{enclosed_le}
 
 records_length : (ls : List Letter) → length (spelled_messages batch_invocation_rows 3 (map invocation_of ls)) ≡ records_size ls
 unfolding spelled_messages letter_record

@@ -1,7 +1,6 @@
 -- How long requests are: with more letters they are no shorter.
-use Rattle.std.proofs.Common.{◌≡◌, ◌∙◌, sym, ap, subst, refl, ℕ, zero, suc, ◌+◌, ◌-◌, ◌*◌, ◌/◌, ◌%◌, ◌^◌, ◌<◌, ◌≤◌, Bool, true, false, cond, ltb, true≢false, List, [], ◌∷◌, ◌++◌, length, take, get_or, arith, sum_by, add-one}
+use Rattle.std.proofs.Common.{◌≡◌, ◌∙◌, sym, ap, refl, ℕ, zero, suc, ◌+◌, ◌/◌, ◌%◌, ◌<◌, ◌≤◌, Bool, true, false, cond, List, [], ◌∷◌, length, take, get_or, arith, sum_by}
 use Rattle.std.specs.Prelude.{nat_lt}
-use Rattle.std.specs.Cmp.{unsigned_Decides}
 use Rattle.std.proofs.lemmas.List.{take_more}
 use Rattle.std.proofs.lemmas.List.Sums.{sum_by-append, sum_by-cons}
 use Rattle.proto_wire.specs.Varint.{varint, groups_of}
@@ -9,7 +8,7 @@ use Rattle.proto_wire.specs.Counts.{groups_of-some}
 use Rattle.typed_values.specs.declared.letter.Letter.{Letter}
 use Rattle.request_reply.specs.Letters.{letter_record}
 use Rattle.batch_queue.specs.declared.limits.Limits.{Limits}
-use Rattle.batch_queue.specs.Batches.{enclosed, records_size, request_size, IsWithin}
+use Rattle.batch_queue.specs.Batches.{enclosed, records_size, IsWithin}
 
 pub groups_le : (more m n : ℕ) → m ≤ n → length (groups_of more m) ≤ length (groups_of more n)
 unfolding groups_of

@@ -1,12 +1,11 @@
 -- How mail is kept: a box for each address, which has a number, and the numbers of the ready ones in line.
-use Rattle.std.specs.Prelude.{◌≡◌, ℕ, ◌<◌, ◌≤◌, Bool, true, List, [], ◌∷◌, map, length, slice_index_or, Option, Some}
+use Rattle.std.specs.Prelude.{◌≡◌, ℕ, ◌<◌, ◌≤◌, true, List, [], map, length, slice_index_or, Option, Some}
 use Rattle.std.specs.Option.{option_map, option_map_or}
 use Rattle.std.specs.List.{list_all}
 use Rattle.std.specs.Map.{lookup}
 use Rattle.std.specs.BTreeMap.{is_at}
 use Rattle.std.specs.declared.cmp.Ordering.{Ordering}
 use Rattle.typed_values.specs.declared.address.Address.{Address}
-use Rattle.typed_values.specs.declared.letter.Letter.{Letter}
 use Rattle.typed_values.specs.contracts.address.AddressOrd.TheImpl as address_ord
 use Rattle.typed_values.specs.Sameness.{same_address}
 use Rattle.typed_values.specs.Tables.{empty_address}

@@ -1,5 +1,5 @@
 -- A waiting line of numbers, by links in both directions.
-use Rattle.std.specs.Prelude.{◌≡◌, ℕ, zero, suc, ◌+◌, ◌-◌, ◌<◌, Bool, false, not, nat_eq, List, [], ◌∷◌, length, filter, map, slice_index_or}
+use Rattle.std.specs.Prelude.{◌≡◌, ℕ, zero, suc, ◌+◌, ◌-◌, ◌<◌, Bool, false, not, nat_eq, List, [], ◌∷◌, length, filter, slice_index_or}
 use Rattle.std.specs.List.{list_any}
 use Rattle.batch_queue.specs.declared.line.Link.{Link}
 

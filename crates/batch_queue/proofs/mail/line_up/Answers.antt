@@ -1,7 +1,7 @@
 use Rattle.std.proofs.Common.{◌≡◌, ◌∙◌, sym, refl, Bool, true, false}
 use mathlib.Core.Bool.{beq}
 use Rattle.batch_queue.specs.Post.{waits}
-use Rattle.batch_queue.proofs.Keeping.{lined_same, post_after}
+use Rattle.batch_queue.proofs.Keeping.{lined_same}
 use Rattle.batch_queue.proofs.mail.line_up.Goals as goal
 
 alike : (a b : Bool) → beq a b ≡ true → a ≡ b

@@ -1,6 +1,5 @@
-use Rattle.std.proofs.Common.{◌≡◌, ◌∙◌, sym, ap, subst, List, ◌++◌, ◌∷◌, [], ◌+◌, ◌-◌, length}
-use Rattle.batch_queue.specs.declared.line.Link.{Link}
-use Rattle.batch_queue.specs.Lines.{InLine, IsLinked, in_line, no_link}
+use Rattle.std.proofs.Common.{◌∙◌, sym, ap, subst, ◌+◌}
+use Rattle.batch_queue.specs.Lines.{IsLinked, in_line, no_link}
 use Rattle.batch_queue.proofs.Relinking.{grow_is}
 use Rattle.batch_queue.proofs.line.Line.grow.Goals as goal
 

@@ -1,4 +1,4 @@
-use Rattle.std.proofs.Common.{◌≡◌, ◌∙◌, sym, ap, refl, ◌+◌, ◌-◌, ◌<◌, ◌++◌, ◌∷◌, [], true, false, suc, length, arith, get_or, add-one, subst, ℕ}
+use Rattle.std.proofs.Common.{◌≡◌, ◌∙◌, sym, ap, ◌+◌, ◌-◌, ◌<◌, ◌++◌, ◌∷◌, [], length, arith, add-one, subst, ℕ}
 use Rattle.std.proofs.lemmas.List.{get_or_default}
 use Rattle.batch_queue.specs.Lines.{InLine, stands, before, no_link}
 use Rattle.batch_queue.specs.declared.line.Link.{Link}

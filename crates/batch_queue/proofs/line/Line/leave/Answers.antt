@@ -1,6 +1,6 @@
-use Rattle.std.proofs.Common.{◌≡◌, ◌∙◌, sym, ap, refl, ℕ, ◌+◌, ◌-◌, ◌<◌, true, suc, length, arith, get_or, add-one, subst}
+use Rattle.std.proofs.Common.{◌≡◌, ◌∙◌, sym, ap, ℕ, ◌+◌, ◌<◌, suc, length, arith, get_or, add-one}
 use Rattle.std.proofs.lemmas.List.{get_or_default}
-use Rattle.batch_queue.specs.Lines.{InLine, stands, without, before, after, no_link, in_line}
+use Rattle.batch_queue.specs.Lines.{InLine, stands, without, before, after, no_link}
 use Rattle.batch_queue.specs.declared.line.Link.{Link}
 use Rattle.batch_queue.proofs.Relinking.{leave_is, in_room, prev_room, next_room}
 use Rattle.batch_queue.proofs.line.Line.leave.Goals as goal

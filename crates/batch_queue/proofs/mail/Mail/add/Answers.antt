@@ -1,11 +1,10 @@
-use Rattle.std.proofs.Common.{◌≡◌, ◌∙◌, sym, ap, subst, refl, ◌<◌, ◌≤◌, ℕ, List, Option, Some, arith, ◌+◌, ◌++◌, ◌∷◌, [], length, length-append}
+use Rattle.std.proofs.Common.{◌≡◌, ◌∙◌, sym, ap, subst, refl, arith, ◌+◌, ◌++◌, ◌∷◌, [], length, length-append}
 use Rattle.std.specs.Prelude.{IsSome}
 use Rattle.std.specs.List.{list_all}
-use Rattle.typed_values.specs.declared.letter.Letter.{Letter}
 use Rattle.typed_values.specs.Sameness.{same_address}
 use Rattle.batch_queue.specs.Boxes.{Waiting}
 use Rattle.batch_queue.specs.Lines.{stands}
-use Rattle.batch_queue.specs.Post.{Post, with_letters, put}
+use Rattle.batch_queue.specs.Post.{with_letters, put}
 use Rattle.batch_queue.specs.Kept.{Kept, IsKept, post_of}
 use Rattle.batch_queue.proofs.Keeping.{Changes, same_boxes, written_back, kept_after, post_after, letters_here, in_flight_here, all_pushed}
 use Rattle.batch_queue.proofs.Addresses.{same_itself}

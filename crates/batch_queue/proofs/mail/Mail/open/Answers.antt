@@ -1,14 +1,13 @@
-use Rattle.std.proofs.Common.{◌≡◌, ◌∙◌, sym, ap, subst, refl, ◌<◌, ◌≤◌, ℕ, List, [], length, Option, Some, arith, drop}
+use Rattle.std.proofs.Common.{◌≡◌, ◌∙◌, sym, ap, subst, refl, ◌≤◌, [], length, Option, arith}
 use Rattle.std.specs.Prelude.{IsSome}
 use Rattle.std.specs.List.{list_all}
 use Rattle.std.specs.Option.{option_map_or}
-use Rattle.typed_values.specs.declared.letter.Letter.{Letter}
 use Rattle.typed_values.specs.Sameness.{same_address}
 use Rattle.batch_queue.specs.Boxes.{Waiting}
 use Rattle.batch_queue.specs.Lines.{stands}
-use Rattle.batch_queue.specs.Post.{Post, with_letters, opened}
+use Rattle.batch_queue.specs.Post.{with_letters, opened}
 use Rattle.batch_queue.specs.Kept.{Kept, post_of}
-use Rattle.batch_queue.proofs.Keeping.{Changes, kept_after, post_after, letters_here, in_flight_here, all_dropped}
+use Rattle.batch_queue.proofs.Keeping.{Changes, kept_after, post_after, letters_here}
 use Rattle.batch_queue.proofs.mail.Mail.open.Goals as goal
 
 pub line_up-requires-clause-known : goal.line_up-requires-clause-known

@@ -1,4 +1,4 @@
-use Rattle.std.proofs.Common.{◌≡◌, ◌∙◌, sym, ap, subst, ℕ, ◌<◌, Bool, true, false, true≢false, length, Option, Some, None, slice_get, get_or, List, Bor, map, [], ◌∷◌, rules, refl, zero, suc, arith}
+use Rattle.std.proofs.Common.{◌≡◌, ◌∙◌, sym, ap, subst, ℕ, ◌<◌, true, true≢false, length, Option, Some, None, slice_get, get_or, List, Bor, map, [], ◌∷◌, rules, refl, zero, suc, arith}
 use Rattle.std.specs.Prelude.{IfSome, IsNone}
 use Rattle.std.specs.Option.{option_copied}
 use Rattle.typed_values.specs.declared.address.Address.{Address}

@@ -1,8 +1,8 @@
-use Rattle.std.proofs.Common.{◌≡◌, ◌∙◌, sym, ap, ◌+◌, ◌<◌, ◌≤◌, ◌^◌, take, length, arith, ℕ, get_or, refl, min}
+use Rattle.std.proofs.Common.{◌≡◌, ◌∙◌, ap, ◌+◌, length, arith, get_or}
 use Rattle.std.proofs.lemmas.List.{length-take-le}
 use Rattle.request_reply.specs.Letters.{letter_record}
 use Rattle.batch_queue.specs.Boxes.{Waiting}
-use Rattle.batch_queue.specs.Batches.{enclosed, records_size, request_size, IsWithin}
+use Rattle.batch_queue.specs.Batches.{enclosed}
 use Rattle.batch_queue.proofs.Sizing.{too_long}
 use Rattle.batch_queue.proofs.mailbox.MailBox.fitting.Goals as goal
 
