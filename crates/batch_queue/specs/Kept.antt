@@ -50,5 +50,5 @@ pub record IsKept (kept : Kept) : Type 0 where
   pub boxed : (address : Address) (box : Waiting) → box_of kept address ≡ Some box → IsBoxOf kept.names kept.line.numbers address box
   -- each number in line is that of a box
   pub held : (number : ℕ) → stands number kept.line.numbers ≡ true →
-    option_map (λ box. box.number) (box_of kept (name_of kept.names number)) ≡ Some number
+      option_map (λ box. box.number) (box_of kept (name_of kept.names number)) ≡ Some number
   pub roomy : length kept.names ≤ kept.line.size
