@@ -3,8 +3,12 @@
 
 mod cells_rows;
 mod delays_rows;
+mod mail_rows;
 mod pieces;
 
+use batch_queue::{
+    a_batch_keeps_the_limit, letters_leave_in_order_of_arrival, size_is_that_of_the_request,
+};
 use delayed_messages::{
     a_cancellation_takes_its_own, none_is_due_before_its_moment, none_is_lost, none_is_sent_early,
     the_least_is_due,
@@ -25,6 +29,7 @@ impl Rows for PartsRows {
         match kind {
             "cells" => cells_rows::show(alloc, words),
             "delays" => delays_rows::show(alloc, words),
+            "mail" => mail_rows::show(alloc, words),
             "laws" => laws(alloc),
             _ => Err(Failure::Row),
         }
@@ -41,6 +46,9 @@ fn laws(alloc: Global) -> Result<String, Failure> {
     none_is_due_before_its_moment();
     none_is_sent_early();
     none_is_lost();
+    size_is_that_of_the_request();
+    a_batch_keeps_the_limit();
+    letters_leave_in_order_of_arrival();
     Ok(String::from_str(alloc, "  called\n")?)
 }
 
