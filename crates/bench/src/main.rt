@@ -1,5 +1,5 @@
-//! The program `bench`: decodes and encodes messages again and again, writes cells, puts, cancels and sends delays, or reads
-//! the module file on standard input. `bench/run` times it.
+//! The program `bench`: decodes and encodes messages again and again, writes cells, puts, cancels and sends delays, puts and takes
+//! letters, or reads the module file on standard input. `bench/run` times it.
 #![tactic(auto)]
 
 mod answers;
@@ -7,6 +7,7 @@ mod failure;
 mod letters;
 mod modules;
 mod parts;
+mod posts;
 mod requests;
 mod state;
 mod tally;
@@ -54,6 +55,8 @@ fn done(rt: &HostRuntime, work: Work, count: u32, rounds: u32) -> Result<Tally, 
         Work::Answer => answers::work(alloc, count, rounds),
         Work::Module => modules::work(rt, count, rounds),
         Work::Cells => state::work(alloc, count, rounds),
+        Work::Mail => posts::work(alloc, 97, count, rounds),
+        Work::Mailboxes => posts::work(alloc, 10_000, count, rounds),
         Work::Delays => waiting::work(alloc, count, rounds),
     }
 }

@@ -15,6 +15,10 @@ pub(crate) enum Work {
     Module,
     /// Writes of cells.
     Cells,
+    /// Letters for 97 addresses that are put, opened in batches and taken.
+    Mail,
+    /// The same for 10,000 addresses.
+    Mailboxes,
     /// Delays that are put, cancelled and sent.
     Delays,
 }
@@ -28,6 +32,8 @@ impl Work {
             Work::Answer => "answer",
             Work::Module => "module",
             Work::Cells => "cells",
+            Work::Mail => "mail",
+            Work::Mailboxes => "mailboxes",
             Work::Delays => "delays",
         }
     }
@@ -67,6 +73,8 @@ fn work_of(word: &str) -> Result<Work, Failure> {
         "answer" => Ok(Work::Answer),
         "module" => Ok(Work::Module),
         "cells" => Ok(Work::Cells),
+        "mail" => Ok(Work::Mail),
+        "mailboxes" => Ok(Work::Mailboxes),
         "delays" => Ok(Work::Delays),
         _ => Err(Failure::Words),
     }
