@@ -46,7 +46,9 @@ used AfterInvoke (Some value) stamp moment = moment
 
 -- an invocation drops what has expired, and is a use of the other cells
 abbrev pub invoked : ℕ → Cell → Cell
-invoked moment cell = if is_expired moment cell then emptied cell else record { spec = cell.spec; value = cell.value; stamp = used cell.spec.mode cell.value cell.stamp moment }
+invoked moment cell =
+    if is_expired moment cell then emptied cell
+    else record { spec = cell.spec; value = cell.value; stamp = used cell.spec.mode cell.value cell.stamp moment }
 
 -- ---- the cells of an address, in order of registration
 
