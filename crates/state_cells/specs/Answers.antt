@@ -30,7 +30,8 @@ Answers wanted (Err TooLarge) = wanted ≡ Err TooLarge
 abbrev pub taking : TypedValue → Option Cell → Result (Unit {0}) CellFault
 taking value None = Err UnknownName
 taking value (Some cell) =
-    if same_bytes cell.spec.typename value.typename then (if nat_lt most_bytes (length value.value) then Err TooLarge else Ok tt) else Err TypeDiffers
+    if same_bytes cell.spec.typename value.typename then (if nat_lt most_bytes (length value.value) then Err TooLarge else Ok tt)
+    else Err TypeDiffers
 
 abbrev pub modifying : List ℕ → TypedValue → List Cell → Result (Unit {0}) CellFault
 modifying name value cells = taking value (found name cells)
