@@ -3,11 +3,9 @@
 #![tactic(auto)]
 
 mod input;
-mod kinds;
 mod trees;
 
 use input::text_of_row;
-use kinds::name_of;
 use proto_wire::{List, Text};
 use row_text::{Failure, Rows, show_rows};
 use std::alloc::Global;
@@ -30,7 +28,7 @@ impl Rows for YamlRows {
                     kind,
                 },
             ) => {
-                let kind = name_of(kind);
+                let kind = kind.name();
                 Ok(format!(in alloc; "  refused {document} {line} {kind}\n")?)
             }
             Err(YamlFault::OutOfMemory) => Err(Failure::OutOfMemory),
