@@ -11,7 +11,8 @@ use Rattle.std.proofs.lemmas.Bool.Decides.{same_from_decides}
 use Rattle.typed_values.specs.declared.name.TypeName.{TypeName}
 use Rattle.typed_values.specs.declared.address.Address.{Address}
 use Rattle.typed_values.specs.contracts.name.TypeNameOrd.TheImpl as name_ord
-use Rattle.typed_values.specs.Sameness.{same_address, same_address-Decides}
+use Rattle.typed_values.specs.Sameness.{same_address}
+use Rattle.typed_values.proofs.Sameness.{same_address-Decides}
 use Rattle.batch_queue.specs.Kept.{address_order}
 
 abbrev name_order : TypeName → TypeName → Ordering

@@ -1,7 +1,6 @@
 -- The length of a batch's request.
 use Rattle.std.proofs.Common.{◌≡◌, ◌∙◌, sym, ap, refl, ℕ, ◌+◌, ◌-◌, ◌*◌, ◌<◌, ◌≤◌, ◌^◌, List, [], ◌∷◌, length, map, min, append-nil, arith, length-append}
 use Rattle.std.proofs.lemmas.List.Sums.{sum_by-cons}
-use Rattle.proto_wire.specs.Counts.{varint-some}
 use Rattle.proto_wire.specs.Record.{bytes_record}
 use Rattle.proto_wire.specs.Message.{spelling, spelled_message, spelled_messages, capped}
 use Rattle.typed_values.specs.declared.letter.Letter.{Letter}
@@ -14,20 +13,21 @@ use Rattle.request_reply.specs.Spelling.{to_spelling}
 use Rattle.batch_queue.specs.declared.limits.Limits.{Limits}
 use Rattle.batch_queue.specs.Batches.{enclosed, records_size, request_size, IsBatch}
 use Rattle.batch_queue.specs.Laws.{head_of}
+use Rattle.batch_queue.proofs.Sizing.{varint-some}
 
-records_length : (ls : List Letter) → length (spelled_messages batch_invocation_rows 3 (map invocation_of ls)) ≡ records_size ls
+records_length : (ls : List Letter) → length (spelled_messages (spelling batch_invocation_rows) 3 (map invocation_of ls)) ≡ records_size ls
 unfolding spelled_messages letter_record
 records_length [] = refl
 records_length (l ∷ ls) =
-    length-append (letter_record l) (spelled_messages batch_invocation_rows 3 (map invocation_of ls))
+    length-append (letter_record l) (spelled_messages (spelling batch_invocation_rows) 3 (map invocation_of ls))
     ∙ ap (λ n. length (letter_record l) + n) (records_length ls)
     ∙ sym (sum_by-cons (λ (x : Letter). length (letter_record x)) l ls)
 
 batch_length : (request : InvocationBatchRequest) (ls : List Letter) → request.invocations ≡ map invocation_of ls → length (spelling batch_rows request) ≡ length (head_of request) + records_size ls
 unfolding batch_rows
 batch_length request ls same =
-    let s = spelled_messages batch_invocation_rows 3 request.invocations in
-    let last : length s ≡ records_size ls = ap (λ xs. length (spelled_messages batch_invocation_rows 3 xs)) same ∙ records_length ls in
+    let s = spelled_messages (spelling batch_invocation_rows) 3 request.invocations in
+    let last : length s ≡ records_size ls = ap (λ xs. length (spelled_messages (spelling batch_invocation_rows) 3 xs)) same ∙ records_length ls in
     simp (length-append, append-nil) (omega (arith, last))
 
 enclosed_length : (payload : List ℕ) → length (bytes_record 100 payload) ≡ enclosed (length payload)

@@ -1,14 +1,26 @@
 -- How long requests are: with more letters they are no shorter.
-use Rattle.std.proofs.Common.{◌≡◌, ◌∙◌, sym, ap, refl, ℕ, zero, suc, ◌+◌, ◌/◌, ◌%◌, ◌<◌, ◌≤◌, Bool, true, false, cond, List, [], ◌∷◌, length, take, get_or, arith, sum_by}
+use Rattle.std.proofs.Common.{◌≡◌, ◌∙◌, sym, ap, refl, ℕ, zero, suc, ◌+◌, ◌/◌, ◌%◌, ◌<◌, ◌≤◌, Bool, true, false, cond, ltb, List, [], ◌∷◌, length, take, get_or, arith, sum_by}
 use Rattle.std.specs.Prelude.{nat_lt}
 use Rattle.std.proofs.lemmas.List.{take_more}
 use Rattle.std.proofs.lemmas.List.Sums.{sum_by-append, sum_by-cons}
 use Rattle.proto_wire.specs.Varint.{varint, groups_of}
-use Rattle.proto_wire.specs.Counts.{groups_of-some}
 use Rattle.typed_values.specs.declared.letter.Letter.{Letter}
 use Rattle.request_reply.specs.Letters.{letter_record}
 use Rattle.batch_queue.specs.declared.limits.Limits.{Limits}
 use Rattle.batch_queue.specs.Batches.{enclosed, records_size, IsWithin}
+
+some-cond : (b : Bool) (x y : List ℕ) → 1 ≤ length x → 1 ≤ length y → 1 ≤ length (cond b x y)
+some-cond true x y p q = p
+some-cond false x y p q = q
+
+groups_of-some : (more number : ℕ) → 1 ≤ length (groups_of more number)
+unfolding groups_of
+groups_of-some zero number = omega arith
+groups_of-some (suc more) number = some-cond (ltb number 128) _ _ (omega arith) (omega arith)
+
+pub varint-some : (number : ℕ) → 1 ≤ length (varint number)
+unfolding varint
+varint-some number = groups_of-some 9 number
 
 pub groups_le : (more m n : ℕ) → m ≤ n → length (groups_of more m) ≤ length (groups_of more n)
 unfolding groups_of

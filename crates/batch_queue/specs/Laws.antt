@@ -1,6 +1,6 @@
 -- Laws of mail.
 use Rattle.std.specs.Prelude.{◌≡◌, ℕ, ◌≤◌, ◌<◌, ◌^◌, if◌then◌else◌, List, [], ◌∷◌, ◌++◌, take, length, map}
-use Rattle.proto_wire.specs.Message.{capped, spelled_message, spelled_messages}
+use Rattle.proto_wire.specs.Message.{capped, spelling, spelled_message, spelled_messages}
 use Rattle.typed_values.specs.declared.address.Address.{Address}
 use Rattle.typed_values.specs.declared.letter.Letter.{Letter}
 use Rattle.typed_values.specs.Sameness.{same_address}
@@ -18,7 +18,7 @@ use Rattle.batch_queue.specs.Post.{Post, no_post, put, opened, taken, returned}
 
 -- the records of a request's target and of its state
 abbrev pub head_of : InvocationBatchRequest → List ℕ
-head_of request = spelled_message address_rows 1 request.target ++ spelled_messages persisted_value_rows 2 request.state
+head_of request = spelled_message (spelling address_rows) 1 request.target ++ spelled_messages (spelling persisted_value_rows) 2 request.state
 
 -- what `open_batch` counts is the length of the canonical request
 abbrev pub SizeIsOfRequest : Type 0

@@ -7,7 +7,8 @@ use Rattle.std.specs.Cmp.Lexicographic.{bytes_decides}
 use Rattle.std.specs.List.{AllByRecursion}
 use Rattle.typed_values.specs.declared.address.Address.{Address}
 use Rattle.typed_values.specs.declared.record.Delay.{Delay}
-use Rattle.typed_values.specs.Sameness.{same_bytes, same_address, same_address-Decides}
+use Rattle.typed_values.specs.Sameness.{same_bytes, same_address}
+use Rattle.typed_values.proofs.Sameness.{same_address-Decides}
 use Rattle.typed_values.specs.Delays.{is_meant, cancelled, sooner, earliest, due_at, if_due}
 use Rattle.delayed_messages.specs.Laws.{CancelsItsOwn, LeastIsDue, NoneIsDue, NoneIsEarly, NoneIsLost, Puts, Cancels, Asks, left_by, put_by, came, sent_by, delay_in}
 

@@ -1,8 +1,8 @@
 -- What stands behind a line changes no refusal up to it.
 use Rattle.std.proofs.Common.{◌≡◌, ℕ, suc, ◌+◌, ◌≤◌, ◌<◌, Bool, true, false, ◌&&◌, ◌==◌, cond, List, [], ◌∷◌, ◌++◌, length, Option, Some, None, Result, Ok, Err, ◌⊎◌, inl, inr, refl, sym, ap, subst, ◌∙◌, append_assoc, arith}
 use Rattle.std.specs.Prelude.{not}
-use Rattle.proto_wire.specs.declared.fault.ModuleKind.{ModuleKind}
-use Rattle.proto_wire.specs.declared.fault.ModuleKind.TheVariants.{Directive, Tab, Indent}
+use Rattle.proto_wire.specs.declared.module_kind.ModuleKind.{ModuleKind}
+use Rattle.proto_wire.specs.declared.module_kind.ModuleKind.TheVariants.{Directive, Tab, Indent}
 use Rattle.yaml_block.specs.declared.piece.Piece.{Piece}
 use Rattle.yaml_block.specs.declared.piece.Head.{Head}
 use Rattle.yaml_block.specs.declared.piece.Head.TheVariants as head

@@ -5,7 +5,7 @@ use Rattle.std.proofs.lemmas.List.{append-nil, length-append}
 use Rattle.std.specs.Prelude.{nat_lt}
 use Rattle.std.specs.Str.{IsUtf8, is_utf8}
 use Rattle.std.proofs.lemmas.Str.{IsUtf8-from_is_utf8, is_utf8-from_IsUtf8}
-use Rattle.proto_wire.specs.declared.fault.ModuleKind.TheVariants.{TooLong, NotUtf8}
+use Rattle.proto_wire.specs.declared.module_kind.ModuleKind.TheVariants.{TooLong, NotUtf8}
 use Rattle.yaml_block.specs.declared.piece.Piece.{Piece}
 use Rattle.yaml_block.specs.declared.piece.Bound.{Bound}
 use Rattle.yaml_block.specs.declared.piece.Line.TheVariants as a_line

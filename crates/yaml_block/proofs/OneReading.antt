@@ -2,7 +2,7 @@
 use Rattle.std.proofs.Common.{◌≡◌, ℕ, zero, suc, ◌+◌, ◌≤◌, Bool, true, false, cond, List, [], ◌∷◌, ◌++◌, length, Option, Some, None, Result, Ok, Err, refl, sym, ap, ap₂, ◌∙◌, append_assoc, arith}
 use Rattle.std.proofs.lemmas.Bool.Decides.{nat_tests}
 use Rattle.std.specs.Prelude.{nat_lt, not}
-use Rattle.proto_wire.specs.declared.fault.ModuleKind.TheVariants.{TooLong, NotUtf8}
+use Rattle.proto_wire.specs.declared.module_kind.ModuleKind.TheVariants.{TooLong, NotUtf8}
 use Rattle.std.specs.Str.{is_utf8}
 use Rattle.std.proofs.lemmas.Str.{IsUtf8-from_is_utf8}
 use Rattle.yaml_block.specs.declared.piece.Piece.{Piece}

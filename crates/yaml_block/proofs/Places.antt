@@ -2,7 +2,7 @@
 use Rattle.std.proofs.Common.{◌≡◌, ℕ, zero, suc, get_or, ◌+◌, ◌-◌, ◌≤◌, ◌<◌, Bool, true, false, ◌&&◌, ◌==◌, cond, List, [], ◌∷◌, ◌++◌, length, drop, Option, Some, None, inl, inr, refl, sym, ap, subst, ◌∙◌, arith}
 use Rattle.std.proofs.lemmas.List.{drop_more, length-drop}
 use Rattle.std.specs.Prelude.{not, slice_get, slice_index_or, Contains}
-use Rattle.proto_wire.specs.declared.fault.ModuleKind.TheVariants.{Directive, Tab, Indent}
+use Rattle.proto_wire.specs.declared.module_kind.ModuleKind.TheVariants.{Directive, Tab, Indent}
 use Rattle.yaml_block.specs.declared.piece.Piece.{Piece}
 use Rattle.yaml_block.specs.declared.piece.Head.{Head}
 use Rattle.yaml_block.specs.declared.piece.Head.TheVariants as head
@@ -10,7 +10,7 @@ use Rattle.yaml_block.specs.declared.piece.Line.{Line}
 use Rattle.yaml_block.specs.declared.piece.Line.TheVariants as a_line
 use Rattle.yaml_block.specs.declared.node.Node.{Node}
 use Rattle.yaml_block.specs.declared.node.Pair.{Pair}
-use Rattle.proto_wire.specs.declared.fault.ModuleKind.{ModuleKind}
+use Rattle.proto_wire.specs.declared.module_kind.ModuleKind.{ModuleKind}
 use Rattle.yaml_block.specs.Scalars.{is_white, is_item, is_over}
 use Rattle.yaml_block.specs.Lines.{piece, pieces_on, head_on, marked_line, other_line, refused_line, has_tab, behind_mark, starts_white}
 use Rattle.yaml_block.specs.Layout.{Forest, none, grown}

@@ -3,8 +3,8 @@ use Rattle.std.proofs.Common.{◌≡◌, ℕ, ◌+◌, ◌≤◌, ◌<◌, Bool,
 use Rattle.std.proofs.lemmas.List.{append-nil}
 use Rattle.std.specs.List.{list_any}
 use Rattle.std.specs.Str.{bytes_eq}
-use Rattle.proto_wire.specs.declared.fault.ModuleKind.{ModuleKind}
-use Rattle.proto_wire.specs.declared.fault.ModuleKind.TheVariants.{DuplicateKey}
+use Rattle.proto_wire.specs.declared.module_kind.ModuleKind.{ModuleKind}
+use Rattle.proto_wire.specs.declared.module_kind.ModuleKind.TheVariants.{DuplicateKey}
 use Rattle.yaml_block.specs.declared.piece.Piece.{Piece}
 use Rattle.yaml_block.specs.declared.piece.Head.{Head}
 use Rattle.yaml_block.specs.declared.piece.Head.TheVariants as head

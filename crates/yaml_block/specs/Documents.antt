@@ -3,7 +3,7 @@ use Rattle.std.specs.Prelude.{◌≡◌, ℕ, ◌+◌, Bool, false, not, ◌&&�
 use Rattle.std.specs.Prelude.{[], ◌∷◌, ◌++◌, length, take, count_by, Option, Some, None, Result, Ok, Err}
 use Rattle.std.specs.Str.{is_utf8}
 use Rattle.std.specs.Str.Lossy.{utf8_valid_len}
-use Rattle.proto_wire.specs.declared.fault.ModuleKind.TheVariants.{NotUtf8, TooLong}
+use Rattle.proto_wire.specs.declared.module_kind.ModuleKind.TheVariants.{NotUtf8, TooLong}
 use Rattle.yaml_block.specs.declared.piece.Piece.{Piece}
 use Rattle.yaml_block.specs.declared.piece.Line.{Line}
 use Rattle.yaml_block.specs.declared.piece.Line.TheVariants as a_line

@@ -1,7 +1,7 @@
 -- A line by itself: the pieces that it is made of.
 use Rattle.std.specs.Prelude.{ℕ, ◌+◌, Bool, false, ◌&&◌, ◌||◌, ◌==◌, not, if◌then◌else◌, List, [], ◌∷◌, Option, Some, None}
-use Rattle.proto_wire.specs.declared.fault.ModuleKind.{ModuleKind}
-use Rattle.proto_wire.specs.declared.fault.ModuleKind.TheVariants.{Tab, Directive, Quote, Indent, Colon}
+use Rattle.proto_wire.specs.declared.module_kind.ModuleKind.{ModuleKind}
+use Rattle.proto_wire.specs.declared.module_kind.ModuleKind.TheVariants.{Tab, Directive, Quote, Indent, Colon}
 use Rattle.yaml_block.specs.declared.piece.Head.{Head}
 use Rattle.yaml_block.specs.declared.piece.Head.TheVariants as head
 use Rattle.yaml_block.specs.declared.piece.Inline.{Inline}

@@ -1,7 +1,7 @@
 -- Scalars within a line (YAML 1.2, section 7.3), as the lists of their bytes.
 use Rattle.std.specs.Prelude.{ℕ, Bool, true, ◌&&◌, ◌||◌, ◌==◌, if◌then◌else◌, List, [], ◌∷◌, Option, Some, None, option_map}
-use Rattle.proto_wire.specs.declared.fault.ModuleKind.{ModuleKind}
-use Rattle.proto_wire.specs.declared.fault.ModuleKind.TheVariants.{Anchor, Tag, Flow, BlockScalar, Reserved}
+use Rattle.proto_wire.specs.declared.module_kind.ModuleKind.{ModuleKind}
+use Rattle.proto_wire.specs.declared.module_kind.ModuleKind.TheVariants.{Anchor, Tag, Flow, BlockScalar, Reserved}
 
 -- ---- what stands around scalars (sections 6.1, 6.2 and 6.6)
 

@@ -1,7 +1,7 @@
 -- Not needed to know what a text means: what the reader's private functions answer.
 use Rattle.std.specs.Prelude.{◌≡◌, ℕ, ◌+◌, Bool, if◌then◌else◌, List, [], ◌∷◌, ◌++◌, length, drop, slice_index, ◌==◌, ◌&&◌, Option, Some, None, Result, Ok, Err}
-use Rattle.proto_wire.specs.declared.fault.ModuleKind.{ModuleKind}
-use Rattle.proto_wire.specs.declared.fault.ModuleKind.TheVariants.{Indent}
+use Rattle.proto_wire.specs.declared.module_kind.ModuleKind.{ModuleKind}
+use Rattle.proto_wire.specs.declared.module_kind.ModuleKind.TheVariants.{Indent}
 use Rattle.yaml_block.specs.declared.piece.Piece.{Piece}
 use Rattle.yaml_block.specs.declared.piece.Head.{Head}
 use Rattle.yaml_block.specs.declared.piece.Head.TheVariants as head
