@@ -8,7 +8,8 @@ use Rattle.std.proofs.lemmas.List.{map_push, get_or_append_left, get_or-append_r
 use Rattle.std.proofs.lemmas.List.Folds.{list_any-append}
 use Rattle.typed_values.specs.declared.address.Address.{Address}
 use Rattle.typed_values.specs.declared.letter.Letter.{Letter}
-use Rattle.typed_values.specs.Sameness.{same_address, same_address-Decides}
+use Rattle.typed_values.specs.Sameness.{same_address}
+use Rattle.typed_values.proofs.Sameness.{same_address-Decides}
 use Rattle.std.specs.BTreeMap.{is_at}
 use Rattle.typed_values.specs.Tables.{empty_address}
 use Rattle.batch_queue.specs.Boxes.{Waiting}

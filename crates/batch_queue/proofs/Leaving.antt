@@ -3,7 +3,8 @@ use Rattle.std.proofs.Common.{◌≡◌, ◌∙◌, sym, ap, refl, Bool, true, f
 use Rattle.std.proofs.lemmas.List.{take-append-drop}
 use Rattle.typed_values.specs.declared.address.Address.{Address}
 use Rattle.typed_values.specs.declared.letter.Letter.{Letter}
-use Rattle.typed_values.specs.Sameness.{same_address, same_address-Decides}
+use Rattle.typed_values.specs.Sameness.{same_address}
+use Rattle.typed_values.proofs.Sameness.{same_address-Decides}
 use Rattle.batch_queue.specs.Post.{Post}
 use Rattle.batch_queue.specs.Laws.{Call, Put, Open, Take, Return, after_call, after_calls, left_by, left_in, put_by, put_in}
 
