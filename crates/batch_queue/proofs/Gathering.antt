@@ -1,12 +1,12 @@
 -- The letters of all boxes in order of their addresses' spellings.
-use Rattle.std.proofs.Common.{◌≡◌, ◌∙◌, sym, ap, subst, refl, ℕ, ◌<◌, Bool, true, false, List, [], ◌∷◌, length, map, filter, flat_map, get_or, set, slice_get, Option, Some, None, arith, IsPermutation, All, zero, suc}
-use Rattle.std.specs.Prelude.{◌&&◌, IsSorted}
-use Rattle.std.specs.List.{AllByRecursion, IsDistinct, Contains, swap, list_all}
+use Rattle.std.proofs.Common.{◌≡◌, ◌∙◌, sym, ap, subst, refl, ℕ, Bool, true, false, List, [], ◌∷◌, map, filter, flat_map, get_or, set, Option, Some, None, IsPermutation, zero, suc}
+use Rattle.std.specs.Prelude.{IsSorted}
+use Rattle.std.specs.List.{AllByRecursion, IsDistinct, swap, list_all}
 use Rattle.std.specs.List.Sorted.{IsSortedBy, apply_swaps, SwapsInRange}
 use Rattle.std.specs.declared.cmp.Ordering.{Ordering}
 use Rattle.std.specs.declared.cmp.Ordering.TheVariants.{Less, Equal, Greater}
 use Rattle.std.specs.Ordering.{is_eq, is_lt, nat_cmp, eq_by_cmp}
-use Rattle.std.specs.Cmp.{IsEquivalence, first_so, second_so, eq_by_cmp_equiv}
+use Rattle.std.specs.Cmp.{first_so, second_so, eq_by_cmp_equiv}
 use Rattle.std.specs.Cmp.Lexicographic.{slice_cmp}
 use Rattle.std.specs.BTreeMap.{BTreeMap, IsOrdered, is_at}
 use Rattle.std.specs.Map.{lookup, keys_of}
@@ -16,7 +16,7 @@ use Rattle.std.proofs.lemmas.List.{map-set, length-map}
 use Rattle.std.proofs.lemmas.List.Elements.{All-from_recursion, recursion_from_All, All-weaker}
 use Rattle.std.proofs.lemmas.List.Folds.{flat_map-map}
 use Rattle.std.proofs.lemmas.List.Sorted.{ranks_by, All-permutation, Contains-permutation, IsPermutation-map}
-use Rattle.std.proofs.lemmas.Map.{NonePasses, lookup-none, none_passes_from_lookup}
+use Rattle.std.proofs.lemmas.Map.{lookup-none, none_passes_from_lookup}
 use Rattle.std.proofs.lemmas.Map.Entries.{none_past_head}
 use Rattle.std.proofs.lemmas.Map.Keys.{IsDistinct-from_sorted, IsDistinct-tail, IsDistinct-IsPermutation}
 use Rattle.std.proofs.lemmas.Map.Views.{All-found, Contains-from_lookup, lookup-from_Contains}
@@ -28,11 +28,12 @@ use Rattle.typed_values.specs.Spelling.{address_spelling}
 use Rattle.batch_queue.specs.Boxes.{Waiting}
 use Rattle.batch_queue.specs.Lines.{InLine}
 use Rattle.batch_queue.specs.Post.{IsAll}
-use Rattle.batch_queue.specs.Kept.{Kept, IsKept, address_order, post_of}
+use Rattle.batch_queue.specs.Kept.{IsKept, address_order, post_of}
 use Rattle.batch_queue.specs.declared.mail.Gathered.{Gathered}
 use Rattle.batch_queue.proofs.Addresses.{addresses_total, exact_addresses, address_test}
-use Rattle.batch_queue.proofs.Spreading.{PassesOnce, IsByKey, one_found, Rises, rises_sorted, rises_mapped, mapped_rises, sorted_rises, HasKey, parts_rise}
+use Rattle.batch_queue.proofs.Spreading.{PassesOnce, one_found, Rises, rises_sorted, rises_mapped, mapped_rises, sorted_rises, parts_rise}
 
+-- what is gathered of a box
 abbrev pub part : Address × Waiting → Gathered
 part entry = record { key = address_spelling entry.0; letters = entry.1.letters }
 
