@@ -23,7 +23,7 @@ exact_names x y h =
     let p = exact_pairs (slice_cmp nat_cmp) (slice_cmp nat_cmp) exact_bytes exact_bytes (x.namespace, x.name) (y.namespace, y.name) h in
     (λ i. record { namespace = (p i).0; name = (p i).1 })
 
-exact_addresses : CmpEqualImpliesEq address_order
+pub exact_addresses : CmpEqualImpliesEq address_order
 exact_addresses x y h =
     let p = exact_pairs name_order (slice_cmp nat_cmp) exact_names exact_bytes (x.kind, x.id) (y.kind, y.id) h in
     (λ i. record { kind = (p i).0; id = (p i).1 })

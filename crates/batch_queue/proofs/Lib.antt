@@ -5,3 +5,5 @@ pub mod Addresses
 pub mod Keeping
 pub mod Leaving
 pub mod Requests
+pub mod Spreading
+pub mod Gathering

@@ -1,11 +1,15 @@
 //! The mail of all addresses.
-ghost use Rattle.std.specs.Prelude.{◌≡◌, ◌↔◌, ◌++◌, ◌∷◌, [], vec_len, vec_capacity, ◌<◌, ◌≤◌, true, false, length, slice_get, IsTrue, IsNone, IfOk, IfErr, IfSome, OnOk, OnErr, MatchOption, nat_eq};
+ghost use Rattle.std.specs.Prelude.{◌≡◌, ◌↔◌, ◌++◌, ◌∷◌, [], vec_len, vec_capacity, ◌<◌, ◌≤◌, true, false, map, flat_map, length, slice_get, IsTrue, IsNone, IfOk, IfErr, IfSome, OnOk, OnErr, MatchOption, nat_eq};
 ghost use Rattle.std.specs.Option.{option_copied};
+ghost use Rattle.std.specs.Ordering.{nat_cmp};
+ghost use Rattle.std.specs.Cmp.Lexicographic.{slice_cmp};
+ghost use Rattle.std.specs.BTreeMap.{IsOrdered};
 ghost use Rattle.typed_values.specs.declared.address.Address.{Address};
+ghost use Rattle.typed_values.specs.Spelling.{address_spelling};
 ghost use Rattle.batch_queue.specs.Lines.{stands};
 ghost use Rattle.batch_queue.specs.Post.{no_post, put, opened, taken, returned, is_ready, waits, lined_up, IsAll};
 ghost use Rattle.batch_queue.specs.Batches.{IsBatch, IsFaultOf};
-ghost use Rattle.batch_queue.specs.Kept.{Kept, post_of, box_of};
+ghost use Rattle.batch_queue.specs.Kept.{Kept, post_of, box_of, address_order};
 
 use crate::line::Line;
 use crate::mailbox::MailBox;
@@ -13,6 +17,7 @@ use crate::{BatchFault, Limits};
 use proto_wire::{Bytes, List, Mem, TryClone};
 use request_reply::Batch;
 use std::alloc::Global;
+use std::cmp::Ordering;
 use std::collections::BTreeMap;
 use std::marker::Model;
 use typed_values::{Address, Letter, encode_address};
@@ -191,16 +196,12 @@ impl Mail {
 
     /// Copies of all letters: by address in byte order of its canonical spelling, and each address' in order of arrival, those
     /// in flight first.
-    pub fn letters(&self) -> Mem<List<Letter>> {
-        let mut gathered = Vec::with_capacity(self.alloc, self.boxes.len())?;
-        for (address, kept) in &self.boxes {
-            gathered.push(Gathered {
-                key: encode_address(self.alloc, address)?,
-                letters: kept.all(self.alloc)?,
-            })?;
-        }
-        gathered.sort_by(|one, other| one.key.as_slice().cmp(&other.key.as_slice()))?;
-        joined(self.alloc, gathered)
+    pub fn letters(&self) -> Mem<List<Letter>>
+        ensures { IfOk result (λ all. IsAll (post_of self.now) all) }
+    {
+        let mut all = gather(self.alloc, &self.boxes)?;
+        all.sort_by(by_key)?;
+        joined(self.alloc, all)
     }
 }
 
@@ -211,15 +212,40 @@ struct Gathered {
     letters: List<Letter>,
 }
 
-/// All of these letters, in order.
-fn joined(alloc: Global, gathered: Vec<Gathered>) -> Mem<List<Letter>> {
-    let mut all = List::new(alloc);
-    for one in gathered {
-        for letter in one.letters.into_vec() {
-            all.push(letter)?;
-        }
+/// Copies of the letters of each box, in the order of the boxes.
+fn gather(alloc: Global, boxes: &BTreeMap<Address, MailBox>) -> Mem<Vec<Gathered>>
+    ensures all { IfOk result (λ all. all.items ≡ map
+        (λ entry. record { key = address_spelling entry.0; letters = entry.1.letters })
+        boxes.now.entries) }
+    ensures ordered { IsOrdered address_order boxes.now }
+{
+    let mut all = Vec::with_capacity(alloc, boxes.len())?;
+    for (address, kept) in boxes {
+        all.push(Gathered {
+            key: encode_address(alloc, address)?,
+            letters: kept.all(alloc)?,
+        })?;
     }
     Ok(all)
+}
+
+/// The order of the spellings, by bytes.
+fn by_key(one: &Gathered, other: &Gathered) -> Ordering
+    ensures { result ≡ slice_cmp nat_cmp one.now.key other.now.key }
+{
+    one.key.cmp(&other.key)
+}
+
+/// All of these letters, in order.
+fn joined(alloc: Global, gathered: Vec<Gathered>) -> Mem<List<Letter>>
+    ensures { IfOk result (λ all. all ≡ flat_map (λ one. one.letters) gathered.items) }
+{
+    let mut all = Vec::new(alloc);
+    for one in gathered {
+        let mut part = one.letters.into_vec();
+        all.append(&mut part)?;
+    }
+    Ok(List::of(all))
 }
 
 /// Lines a box up, after a change: one that became ready goes last, and one that is so no more leaves.
