@@ -10,7 +10,7 @@ from timed import timed
 MOST_RATIO = 11
 # Each work with the smaller number of its letters, messages, writes or delays, and the rounds of that number. Ten times the number has
 # a tenth of the rounds, so that both runs take about as long, and each round's time is known as well.
-WORKS = [("letters", 10000, 20), ("request", 1000, 200), ("answer", 1000, 200), ("cells", 10000, 100), ("mail", 10000, 20), ("mailboxes", 10000, 20), ("delays", 1000, 50)]
+WORKS = [("letters", 10000, 20), ("request", 1000, 200), ("answer", 1000, 200), ("cells", 10000, 100), ("mail", 100000, 10), ("mailboxes", 100000, 10), ("delays", 1000, 50)]
 PEER_WORKS = {"request", "answer"}
 # Those whose time grows with their number alone. Delays are not among them: a cancellation looks at each that waits.
 BOUND_WORKS = {"letters", "cells", "mail", "mailboxes"}
