@@ -1,0 +1,5 @@
+pub mod Blocks
+pub mod Faults
+pub mod Logs
+pub mod Mending
+pub mod Finding

@@ -1,0 +1,5 @@
+pub mod Images
+pub mod Moments
+pub mod Failing
+pub mod Memory
+pub mod Names
