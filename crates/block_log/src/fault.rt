@@ -5,6 +5,7 @@ ghost use Rattle.block_log.specs.declared.fault.LogFault.TheVariants.{OutOfMemor
 
 use proto_wire::OutOfMemory;
 use sf_outside::Fault;
+use std::alloc::AllocError;
 use thiserror::Error;
 
 /// Why a log has no answer.
@@ -36,6 +37,14 @@ impl From<OutOfMemory> for LogFault {
     ghost from_gives = { λ _ e. e ≡ WantsMemory };
 
     fn from(_: OutOfMemory) -> LogFault {
+        LogFault::OutOfMemory
+    }
+}
+
+impl From<AllocError> for LogFault {
+    ghost from_gives = { λ _ e. e ≡ WantsMemory };
+
+    fn from(_: AllocError) -> LogFault {
         LogFault::OutOfMemory
     }
 }

@@ -11,14 +11,14 @@ use std::alloc::Global;
 /// A log that is open, in one file of a disk. It is for that disk alone, and nobody else writes the file.
 #[derive(Drop)]
 pub struct BlockLog {
-    file: u32,
+    pub(crate) file: u32,
     /// Where the blocks begin, in bytes from the file's start.
-    blocks: List<u64>,
+    pub(crate) blocks: List<u64>,
     /// Where the closed gate behind them stands.
-    end: u64,
+    pub(crate) end: u64,
     /// A call that writes has answered a fault.
-    spent: bool,
-    alloc: Global,
+    pub(crate) spent: bool,
+    pub(crate) alloc: Global,
     ghost bound: { end < 2 ^ 62 },
 }
 

@@ -22,7 +22,8 @@ pub(crate) fn mend<D: Disk>(disk: &mut D, file: u32, len: u64) -> Result<(), Fau
         return Ok(());
     }
     disk.write_at(file, 0, &[CLOSED])?;
-    disk.sync(file)
+    disk.sync(file)?;
+    Ok(())
 }
 
 // Whether the first gate stands, and is closed.

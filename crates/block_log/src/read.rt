@@ -1,11 +1,14 @@
 //! Reading a block.
-ghost use Rattle.std.specs.Prelude.{◌≡◌, ℕ, List, Contains, IfOk, IfErr, IsFalse};
+ghost use Rattle.std.specs.Prelude.{◌≡◌, ◌+◌, ◌≤◌, ℕ, List, Contains, length, take, drop, IfOk, IfErr, IsFalse};
+ghost use Rattle.sf_outside.specs.Told.{HasCause};
 ghost use Rattle.sf_disk.specs.Moments.{WhereTold};
 
 use crate::frame::{CLOSED, HEAD, head_in};
 use crate::{BlockLog, LogFault};
 use proto_wire::Bytes;
 use sf_disk::Disk;
+use sf_outside::Fault;
+use std::alloc::Global;
 
 impl BlockLog {
     ghost use Rattle.block_log.specs.Blocks.{Body};
@@ -29,8 +32,26 @@ impl BlockLog {
         if head.gate == CLOSED || head.len > room {
             return Err(LogFault::NotALog { place: position });
         }
-        let mut body = vec![in self.alloc; 0; head.len as usize]?;
-        disk.read(self.file, position.saturating_add(HEAD as u64), &mut body)?;
-        Ok(Bytes::of(body))
+        let place = position.saturating_add(HEAD as u64);
+        let body = bytes_at(self.alloc, disk, self.file, place, head.len)?;
+        Ok(body)
     }
+}
+
+// So many bytes of a file.
+fn bytes_at<D: Disk>(
+    alloc: Global,
+    disk: &mut D,
+    file: u32,
+    at: u64,
+    len: u64,
+) -> Result<Bytes, Fault>
+    requires { WhereTold (D.moments disk.old) (λ now. at + len ≤ length (now file).seen) }
+    ensures bytes { IfOk result (λ bytes. WhereTold (D.moments disk.old) (λ now. bytes ≡ take len (drop at (now file).seen))) }
+    ensures same { D.moments disk.new ≡ D.moments disk.old }
+    ensures cause { HasCause (D.faults disk.old) (D.faults disk.new) result }
+{
+    let mut bytes = vec![in alloc; 0; len as usize]?;
+    disk.read(file, at, &mut bytes)?;
+    Ok(Bytes::of(bytes))
 }
