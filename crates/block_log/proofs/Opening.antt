@@ -101,8 +101,7 @@ module _ (file : ℕ) (a b : List Moment) (along : Along file a b (Follows Keeps
   pub opened_short : (len : ℕ) → len < 10 → WhereTold b (λ m. len ≡ length (m file).seen) → (d : List Moment) (log : BlockLog) → log.end ≡ 0 → log.blocks ≡ [] → Becomes b d (InFile file Mended) → Becomes a d (InFile file (IsOpened log))
   opened_short len few sized d log end blocks becomes = λ m told.
       let k = along.now m told in
-      let n = becomes k.0 k.1 in
-      (
+      let n = becomes k.0 k.1 in (
         n.0,
         n.1,
         record {
@@ -119,8 +118,7 @@ module _ (file : ℕ) (a b : List Moment) (along : Along file a b (Follows Keeps
   pub opened_long : (log : BlockLog) → WhereTold b (λ m. EndsAt log (m file).seen) → Becomes a b (InFile file (IsOpened log))
   opened_long log ends = λ m told.
       let k = along.now m told in
-      let e = ends k.0 k.1 in
-      (
+      let e = ends k.0 k.1 in (
         k.0,
         k.1,
         record {

@@ -25,8 +25,7 @@ has_block log bodies state position opened there =
 split_at : (bytes : List ℕ) (before : List Body) (b : Body) (behind : List Body) → AreBlocks bytes (before ++ b ∷ behind) → (front : List ℕ) × (gate : ℕ) × (rest : List ℕ) × (gate ≢ 0) × (length b < 2 ^ 64) × (bytes ≡ front ++ gate ∷ (framed b ++ rest)) × (length front ≡ extent before)
 split_at bytes [] b behind o = ([], o.0, o.1, o.2, o.3, o.4, refl)
 split_at bytes (x ∷ before) b behind o =
-    let s = split_at o.1 before b behind o.5 in
-    (
+    let s = split_at o.1 before b behind o.5 in (
       o.0 ∷ (framed x ++ s.0),
       s.1,
       s.2,

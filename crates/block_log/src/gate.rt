@@ -32,7 +32,11 @@ pub(crate) fn gate_at<D: Disk>(disk: &mut D, file: u32, at: u64, left: u64) -> R
     if left < SHORTEST {
         let mut gate = [0; 1];
         disk.read(file, at, &mut gate)?;
-        return Ok(if gate[0] == CLOSED { Gate::Closed } else { Gate::Cut });
+        return Ok(if gate[0] == CLOSED {
+            Gate::Closed
+        } else {
+            Gate::Cut
+        });
     }
     let mut bytes = [0; HEAD];
     disk.read(file, at, &mut bytes)?;

@@ -84,10 +84,9 @@ impl BlockLog {
         let gate = self.end;
         self.blocks.push(gate)?;
         disk.write_at(self.file, gate + 1, block.as_slice())?;
-        // The block stands before its gate opens.
-        disk.sync(self.file)?;
+        disk.sync(self.file)?; // the block stands before its gate opens
         disk.write_at(self.file, gate, &[OPEN])?;
-        disk.sync(self.file)?;
+        disk.sync(self.file)?; // and so does the gate before the answer
         self.end = gate + block.len() as u64;
         self.spent = false;
         Ok(gate)

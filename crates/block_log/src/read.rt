@@ -28,7 +28,10 @@ impl BlockLog {
         let mut bytes = [0; HEAD];
         disk.read(self.file, position, &mut bytes)?;
         let head = head_in(bytes);
-        let room = self.end.saturating_sub(position).saturating_sub(HEAD as u64);
+        let room = self
+            .end
+            .saturating_sub(position)
+            .saturating_sub(HEAD as u64);
         if head.gate == CLOSED || head.len > room {
             return Err(LogFault::NotALog { place: position });
         }

@@ -34,13 +34,7 @@ pub(crate) fn image_of(
 }
 
 // What one more change makes of the image.
-fn tear(
-    alloc: Global,
-    image: &mut Vec<Bytes>,
-    seen: &[Bytes],
-    change: &Change,
-    pick: u8,
-) -> Mem<()>
+fn tear(alloc: Global, image: &mut Vec<Bytes>, seen: &[Bytes], change: &Change, pick: u8) -> Mem<()>
     ensures { OnOk result ((file : ℕ) → file_of image.new.items file ≡ image_after pick change.now (file_of seen.now file) file (file_of image.old.items file)) }
 {
     match change {

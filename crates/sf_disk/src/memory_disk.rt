@@ -7,11 +7,11 @@ ghost use Rattle.sf_disk.specs.Moments.{WhereTold, Since, Becomes, InFile, IsIma
 ghost use Rattle.sf_disk.specs.Memory.{ReadsAs, moments_of, now_of, file_of, crashed};
 ghost use Rattle.sf_disk.specs.Failing.{IsFresh, FailsNext, CountsOne};
 
+use crate::Disk;
 use crate::call_count::CallCount;
 use crate::change::Change;
 use crate::files::{change_in, copy_from, file_in};
 use crate::image::image_of;
-use crate::Disk;
 use proto_wire::{Bytes, List, Mem, TryClone};
 use sf_outside::Fault;
 use std::alloc::Global;
