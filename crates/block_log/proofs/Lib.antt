@@ -5,3 +5,5 @@ pub mod Append
 pub mod Opening
 pub mod Walk
 pub mod Reading
+pub mod Unique
+pub mod Lives

@@ -3,3 +3,4 @@ pub mod Faults
 pub mod Logs
 pub mod Mending
 pub mod Finding
+pub mod Laws
