@@ -18,7 +18,7 @@ with_more : (bytes : List ℕ) (held : List Body) (b : Body) (sure : List Body) 
 with_more bytes held b sure unsure found = (
   found.0,
   found.1,
-  ⊎_elim (λ is. inl (is ∙ append_assoc held (b ∷ []) sure)) (λ is. inr (is ∙ append_assoc held (b ∷ []) (sure ++ option_to_list unsure))) found.2,
+  ⊎_elim (λ is. inl (is ∙ append_assoc held (b ∷ []) sure)) (λ is. inr (is ∙ ap (λ (l : List Body). l ++ option_to_list unsure) (append_assoc held (b ∷ []) sure))) found.2,
 )
 
 appended : (file : ℕ) (log : BlockLog) (start : List Moment) (held sure : List Body) (unsure : Option Body) (folder : Folder) → WhereTold start (λ m. IsOpen log held (m file)) → Appends file log start sure unsure folder → Found (folder file) held sure unsure
@@ -29,7 +29,7 @@ appended file log start held [] None folder opened left =
 appended file log start held [] (Some b) folder opened life =
     let either = each_left start life.0 (InFile file (Adds log b)) folder (λ m. HasBlocks (folder file) held ⊎ HasBlocks (folder file) (held ++ b ∷ [])) life.1 (λ m told image. inl ((opened m told).rest (folder file) (image file)))
         (λ m n told adds image. adds.here held (opened m told) (folder file) (image file)) life.2 in
-    ⊎_elim (λ has. (held, inl has, inl (sym (append-nil held)))) (λ has. (held ++ b ∷ [], inl has, inr refl)) either.2
+    ⊎_elim (λ has. (held, inl has, inl (sym (append-nil held)))) (λ has. (held ++ b ∷ [], inl has, inr (ap (λ (l : List Body). l ++ b ∷ []) (sym (append-nil held))))) either.2
 appended file log start held (b ∷ sure) unsure folder opened life =
     let next = told_now start life.0 (InFile file (Added log life.1 b)) (InFile file (Adds log b)) (λ m. IsOpen life.1 (held ++ b ∷ []) (m file)) life.2 life.3 (λ m k told added. added.here held (opened m told)) in
     with_more (folder file) held b sure unsure (appended file life.1 life.0 (held ++ b ∷ []) sure unsure folder next life.4)
