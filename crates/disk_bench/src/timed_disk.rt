@@ -6,7 +6,7 @@ use sf_outside::Fault;
 use std::io;
 use std::os::unix::fs::FileExt;
 use std::rt::{Clock, Files};
-use std::time::Instant;
+use std::time::{Duration, Instant};
 
 /// A disk over a folder, and how long its syncs took.
 #[derive(Drop)]
@@ -38,9 +38,16 @@ where
         self.syncs = self.syncs.saturating_add(1);
         if let Ok(began) = began {
             if let Ok(took) = began.elapsed(&self.clock) {
-                self.nanoseconds = self.nanoseconds.saturating_add(took.as_nanos() as u64);
+                self.nanoseconds = self.nanoseconds.saturating_add(nanoseconds_of(took));
             }
         }
+    }
+}
+
+fn nanoseconds_of(took: Duration) -> u64 {
+    match u64::try_from(took.as_nanos()) {
+        Ok(nanoseconds) => nanoseconds,
+        Err(_) => u64::MAX,
     }
 }
 
