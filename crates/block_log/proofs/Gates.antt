@@ -1,12 +1,12 @@
 -- What stands at a gate, by the bytes that were read there.
-use Rattle.std.proofs.Common.{◌≡◌, ◌≢◌, true, nat_eq, slice_index_or, inl, inr, ℕ, ◌+◌, ◌^◌, ◌<◌, ◌≤◌, List, [], ◌∷◌, ◌++◌, length, take, drop, refl, sym, ◌∙◌, ap, subst, arith, append_assoc, length-append, length-drop, take-append-drop}
+use Rattle.std.proofs.Common.{◌≡◌, ◌≢◌, true, nat_eq, slice_index_or, inl, inr, ℕ, ◌+◌, ◌^◌, ◌<◌, ◌≤◌, List, [], ◌∷◌, ◌++◌, length, take, drop, refl, sym, ◌∙◌, ap, arith, append_assoc, length-append, length-drop, take-append-drop}
 use Rattle.std.proofs.lemmas.Bool.Decides.{nat_tests}
 use Rattle.std.proofs.lemmas.List.{take_at, length-take-le}
 use Rattle.std.proofs.lemmas.Nat.{from_be_bytes-to_be_bytes_8}
 use Rattle.std.specs.Int.{to_be_bytes, from_be_bytes, w64}
-use Rattle.block_log.specs.Blocks.{Body, framed, IsCut}
+use Rattle.block_log.specs.Blocks.{framed, IsCut}
 use Rattle.block_log.specs.Finding.{Begins}
-use Rattle.block_log.specs.declared.gate.Gate.TheVariants.{Closed, Block, Cut}
+use Rattle.block_log.specs.declared.gate.Gate.TheVariants.{Block, Cut}
 
 pub first_byte : (rest bytes : List ℕ) → 0 < length rest → bytes ≡ take 1 rest → (tail : List ℕ) × (rest ≡ slice_index_or bytes 0 0 ∷ tail)
 first_byte [] bytes some read = absurd (omega (arith, some))

@@ -2,7 +2,7 @@
 use Rattle.std.proofs.Common.{◌≡◌, ◌⊎◌, inl, inr, ⊎_elim, ℕ, ◌<◌, arith, List, [], ◌∷◌, ◌++◌, length, Option, Some, None, option_to_list, refl, sym, ◌∙◌, ap, subst, append_assoc}
 use Rattle.std.proofs.lemmas.List.{append-nil}
 use Rattle.sf_disk.specs.Images.{FileState, Leaves, Follows}
-use Rattle.sf_disk.specs.Moments.{Moment, Folder, Since, Becomes, InFile, WhereTold, MightHaveLeft, IsImage, newest}
+use Rattle.sf_disk.specs.Moments.{Moment, Folder, InFile, WhereTold, newest}
 use Rattle.sf_disk.proofs.Onward.{since_now, told_now, each_left}
 use Rattle.block_log.specs.declared.log.BlockLog.{BlockLog}
 use Rattle.block_log.specs.Blocks.{Body, HasBlocks, StandsFor, Keeps}

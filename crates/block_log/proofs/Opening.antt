@@ -1,15 +1,12 @@
 -- What opening a log leads to, and what a crash in it leaves.
-use Rattle.std.proofs.Common.{◌≡◌, inl, inr, ℕ, ◌<◌, ◌≤◌, List, [], ◌∷◌, length, drop, refl, sym, ◌∙◌, ap, subst, arith}
-use Rattle.sf_disk.specs.Images.{FileState, Leaves, IsSynced, Follows, Done, Synced, Torn, Same, patched}
-use Rattle.sf_disk.specs.Moments.{Moment, newest, Since, Becomes, InFile, WhereTold}
-use Rattle.sf_disk.proofs.Onward.{Along, along_first, along_all, along_now, along_next, file_as, file_becomes, file_stays, told_now}
+use Rattle.std.proofs.Common.{◌≡◌, inl, inr, ℕ, ◌<◌, List, [], ◌∷◌, length, drop, refl, sym, ◌∙◌, ap, subst, arith}
+use Rattle.sf_disk.specs.Images.{FileState, IsSynced, Follows, Done, Synced, Torn, Same, patched}
+use Rattle.sf_disk.specs.Moments.{Moment, Since, Becomes, InFile, WhereTold}
+use Rattle.sf_disk.proofs.Onward.{Along, along_first, along_all, along_now, file_as, file_becomes, file_stays, told_now}
 use Rattle.block_log.specs.declared.log.BlockLog.{BlockLog}
-use Rattle.block_log.specs.declared.fault.LogFault.{LogFault}
-use Rattle.block_log.specs.declared.fault.LogFault.TheVariants.{DiskFault, OutOfMemory, NotALog}
-use Rattle.block_log.specs.Blocks.{Body, HasBlocks, StandsFor, Keeps, IsNoLog}
+use Rattle.block_log.specs.Blocks.{Body, HasBlocks, StandsFor, Keeps}
 use Rattle.block_log.specs.Logs.{IsOpened, EndsAt}
 use Rattle.block_log.specs.Mending.{IsShort, Mended}
-use Rattle.block_log.specs.Faults.{Refuses}
 use Rattle.block_log.proofs.Bytes.{end_within}
 
 -- a file too short for a block has none
@@ -131,14 +128,6 @@ module _ (file : ℕ) (a b : List Moment) (along : Along file a b (Follows Keeps
           };
         },
       )
-
-  pub refused_before : (e : LogFault) → Refuses e b file → Refuses e a file
-  refused_before DiskFault refuses = tt
-  refused_before OutOfMemory refuses = tt
-  refused_before (NotALog place) refuses = λ m told. let k = along.now m told in subst (λ (l : List ℕ). IsNoLog l place) k.2.here.follows.reads (refuses k.0 k.1)
-
-pub refused_same : (file : ℕ) (a b : List Moment) (e : LogFault) → b ≡ a → Refuses e b file → Refuses e a file
-refused_same file a b e same refuses = subst (λ (l : List Moment). Refuses e l file) same refuses
 
 -- a call between that leaves all moments
 pub since_from : (a b d : List Moment) (R : Moment → Moment → Type 0) → b ≡ a → Since b d R → Since a d R

@@ -1,14 +1,14 @@
 -- Where the block of a position stands, and what is read of it.
-use Rattle.std.proofs.Common.{◌≡◌, ◌≢◌, inl, ℕ, zero, suc, ◌+◌, ◌^◌, ◌<◌, ◌≤◌, List, [], ◌∷◌, ◌++◌, length, take, drop, Contains, slice_index_or, Option, None, refl, sym, ◌∙◌, ap, subst, arith, append_assoc, length-append}
+use Rattle.std.proofs.Common.{◌≡◌, ◌≢◌, inl, ℕ, zero, suc, ◌+◌, ◌^◌, ◌<◌, ◌≤◌, List, [], ◌∷◌, ◌++◌, length, take, drop, Contains, slice_index_or, None, refl, sym, ◌∙◌, ap, subst, arith, append_assoc, length-append}
 use Rattle.std.proofs.lemmas.List.{take_at, drop_at}
 use Rattle.std.proofs.lemmas.Nat.{from_be_bytes-to_be_bytes_8}
 use Rattle.std.specs.Int.{to_be_bytes, from_be_bytes, w64}
 use Rattle.sf_disk.specs.Images.{FileState}
 use Rattle.sf_disk.specs.Moments.{Moment, WhereTold, newest}
 use Rattle.block_log.specs.declared.log.BlockLog.{BlockLog}
-use Rattle.block_log.specs.Blocks.{Body, framed, AreBlocks, extent, places_from, HasBlocks}
+use Rattle.block_log.specs.Blocks.{Body, framed, AreBlocks, extent, places_from}
 use Rattle.block_log.specs.Logs.{IsOpen, HasBlockAt}
-use Rattle.block_log.proofs.Bytes.{length-framed, length-blocks, heads}
+use Rattle.block_log.proofs.Bytes.{length-framed, heads}
 
 at_place : (p : ℕ) (bodies : List Body) (q k : ℕ) → k < length (places_from p bodies) → slice_index_or (places_from p bodies) k q ≡ q → (before : List Body) × (b : Body) × (behind : List Body) × (bodies ≡ before ++ b ∷ behind) × (q ≡ p + extent before)
 at_place p [] q k less is = absurd (omega (arith, less))

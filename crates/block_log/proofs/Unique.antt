@@ -1,10 +1,10 @@
 -- A file has one meaning.
-use Rattle.std.proofs.Common.{◌≡◌, ◌≢◌, ◌⊎◌, inl, inr, ⊎_elim, ℕ, ◌+◌, ◌^◌, ◌<◌, ◌≤◌, List, [], ◌∷◌, ◌++◌, length, take, drop, refl, sym, ◌∙◌, ap, subst, arith, append_assoc, length-append, take-append-drop}
+use Rattle.std.proofs.Common.{◌≡◌, ◌≢◌, ◌⊎◌, inl, inr, ⊎_elim, ℕ, ◌+◌, ◌^◌, ◌<◌, ◌≤◌, List, [], ◌∷◌, ◌++◌, length, take, drop, refl, sym, ◌∙◌, ap, arith, append_assoc, length-append, take-append-drop}
 use Rattle.std.proofs.lemmas.List.{take_at, drop_at}
 use Rattle.std.proofs.lemmas.Nat.{from_be_bytes-to_be_bytes_8}
 use Rattle.std.specs.Int.{to_be_bytes, from_be_bytes, w64}
 use Rattle.block_log.specs.Blocks.{Body, framed, AreBlocks, extent, HasBlocks, StandsFor, IsCut, IsNoLog}
-use Rattle.block_log.proofs.Bytes.{length-framed, length-blocks, heads, end_within}
+use Rattle.block_log.proofs.Bytes.{length-framed, length-blocks, heads}
 use Rattle.block_log.proofs.Opening.{few_blocks}
 
 framed_apart : (x b : Body) (u v : List ℕ) → length x < 2 ^ 64 → length b < 2 ^ 64 → framed x ++ u ≡ framed b ++ v → (x ≡ b) × (u ≡ v)

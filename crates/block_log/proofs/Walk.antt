@@ -1,9 +1,9 @@
 -- A walk over the blocks of a file, from gate to gate.
-use Rattle.std.proofs.Common.{◌≡◌, ◌≢◌, ℕ, ◌+◌, ◌^◌, ◌<◌, ◌≤◌, List, [], ◌∷◌, ◌++◌, length, drop, refl, sym, ◌∙◌, ap, arith, append_assoc, length-append}
+use Rattle.std.proofs.Common.{◌≡◌, ℕ, ◌+◌, ◌≤◌, List, [], ◌∷◌, ◌++◌, length, drop, refl, sym, ◌∙◌, ap, arith, append_assoc}
 use Rattle.std.proofs.lemmas.List.{drop_at}
 use Rattle.block_log.specs.declared.log.BlockLog.{BlockLog}
 use Rattle.block_log.specs.declared.gate.Gate.TheVariants.{Closed, Block, Cut}
-use Rattle.block_log.specs.Blocks.{Body, framed, AreBlocks, extent, places_from, HasBlocks, IsNoLog}
+use Rattle.block_log.specs.Blocks.{Body, framed, AreBlocks, extent, places_from, IsNoLog}
 use Rattle.block_log.specs.Finding.{Begins}
 use Rattle.block_log.specs.Logs.{EndsAt}
 use Rattle.block_log.proofs.Bytes.{length-blocks, blocks_push, extent-push, places_push}

@@ -1,6 +1,6 @@
 -- What stands at a gate.
 use Rattle.std.specs.Prelude.{◌≡◌, ◌≢◌, ℕ, ◌+◌, ◌^◌, ◌<◌, ◌≤◌, List, ◌∷◌, ◌++◌, length}
-use Rattle.block_log.specs.Blocks.{Body, framed, IsCut, HasBlocks}
+use Rattle.block_log.specs.Blocks.{Body, framed, IsCut}
 use Rattle.block_log.specs.declared.gate.Gate.{Gate}
 use Rattle.block_log.specs.declared.gate.Gate.TheVariants.{Closed, Block, Cut}
 

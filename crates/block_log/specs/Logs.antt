@@ -1,5 +1,5 @@
 -- Logs that are open, and what their calls make of a file.
-use Rattle.std.specs.Prelude.{◌≡◌, ◌⊎◌, ℕ, List, [], ◌∷◌, ◌++◌, false}
+use Rattle.std.specs.Prelude.{◌≡◌, ◌⊎◌, ℕ, List, [], ◌∷◌, ◌++◌}
 use Rattle.sf_disk.specs.Images.{FileState, Leaves, Follows}
 use Rattle.block_log.specs.Blocks.{Body, HasBlocks, StandsFor, Keeps, extent, places_from}
 use Rattle.block_log.specs.declared.log.BlockLog.{BlockLog}

@@ -1,7 +1,7 @@
 -- Files that are too short for a block.
 use Rattle.std.specs.Prelude.{◌≡◌, ℕ, [], length}
 use Rattle.sf_disk.specs.Images.{FileState, Follows, IsSynced}
-use Rattle.block_log.specs.Blocks.{Keeps, HasBlocks}
+use Rattle.block_log.specs.Blocks.{Keeps}
 use Rattle.block_log.specs.Logs.{AtRest}
 
 -- the file is of that length, and all of it is synced

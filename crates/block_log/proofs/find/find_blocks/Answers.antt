@@ -1,5 +1,5 @@
-use Rattle.std.proofs.Common.{◌≡◌, ◌∙◌, ◌+◌, ◌-◌, sym, ap, arith, refl, subst, drop}
-use Rattle.sf_disk.specs.Moments.{newest, WhereTold}
+use Rattle.std.proofs.Common.{◌∙◌, ◌+◌, ◌-◌, sym, ap, arith, refl, subst, drop}
+use Rattle.sf_disk.specs.Moments.{newest}
 use Rattle.block_log.specs.Finding.{Begins, FitsInto}
 use Rattle.block_log.specs.declared.gate.Gate.{Gate}
 use Rattle.block_log.proofs.Walk.{Walked, ends_here, refused, passes}

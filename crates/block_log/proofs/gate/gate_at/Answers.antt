@@ -1,4 +1,4 @@
-use Rattle.std.proofs.Common.{◌∙◌, sym, subst, arith, drop}
+use Rattle.std.proofs.Common.{sym, subst, arith, drop}
 use Rattle.block_log.specs.Finding.{Begins}
 use Rattle.block_log.proofs.Gates.{closed_first, cut_first, left_behind, head_there, behind_head}
 use Rattle.block_log.proofs.gate.gate_at.Goals as goal

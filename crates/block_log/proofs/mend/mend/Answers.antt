@@ -1,5 +1,3 @@
-use Rattle.std.proofs.Common.{sym, subst, List}
-use Rattle.sf_disk.specs.Images.{Follows, Done, Torn, patched}
 use Rattle.block_log.proofs.Opening.{mending_1, mending_2, mending, nothing_to_mend, since_from, becomes_from}
 use Rattle.block_log.proofs.mend.mend.Goals as goal
 

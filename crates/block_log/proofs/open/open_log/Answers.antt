@@ -1,7 +1,7 @@
-use Rattle.std.proofs.Common.{refl, ◌∙◌, ap}
+use Rattle.std.proofs.Common.{◌∙◌, ap}
 use Rattle.sf_disk.specs.Moments.{newest}
 use Rattle.sf_disk.proofs.Onward.{file_as}
-use Rattle.block_log.proofs.Opening.{started, same_keeps, is_short, opening, opened_short, opened_long, refused_before, refused_same, since_to, becomes_to, since_from, becomes_from}
+use Rattle.block_log.proofs.Opening.{started, same_keeps, opening, opened_short, opened_long, since_to, becomes_to, since_from, becomes_from}
 use Rattle.block_log.proofs.open.open_log.Goals as goal
 
 pub returns-in_err-sync-clause-meanwhile : goal.returns-in_err-sync-clause-meanwhile
