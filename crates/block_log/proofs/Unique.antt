@@ -12,8 +12,7 @@ framed_apart x b u v fits_x fits_b same =
     let apart : to_be_bytes w64 (length x) ++ (x ++ u) ≡ to_be_bytes w64 (length b) ++ (b ++ v) = sym (append_assoc (to_be_bytes w64 (length x)) x u) ∙ same ∙ append_assoc (to_be_bytes w64 (length b)) b v in
     let size : to_be_bytes w64 (length x) ≡ to_be_bytes w64 (length b) = sym (take_at (to_be_bytes w64 (length x)) (x ++ u) 8 (omega arith)) ∙ ap (take 8) apart ∙ take_at (to_be_bytes w64 (length b)) (b ++ v) 8 (omega arith) in
     let lengths : length x ≡ length b = sym (from_be_bytes-to_be_bytes_8 (length x) fits_x) ∙ ap (from_be_bytes w64) size ∙ from_be_bytes-to_be_bytes_8 (length b) fits_b in
-    let rest : x ++ u ≡ b ++ v = sym (drop_at (to_be_bytes w64 (length x)) (x ++ u) 8 (omega arith)) ∙ ap (drop 8) apart ∙ drop_at (to_be_bytes w64 (length b)) (b ++ v) 8 (omega arith) in
-    (
+    let rest : x ++ u ≡ b ++ v = sym (drop_at (to_be_bytes w64 (length x)) (x ++ u) 8 (omega arith)) ∙ ap (drop 8) apart ∙ drop_at (to_be_bytes w64 (length b)) (b ++ v) 8 (omega arith) in (
       sym (take_at x u (length x) refl) ∙ ap (take (length x)) rest ∙ take_at b v (length x) (sym lengths),
       sym (drop_at x u (length x) refl) ∙ ap (drop (length x)) rest ∙ drop_at b v (length x) (sym lengths),
     )

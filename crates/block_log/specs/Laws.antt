@@ -39,7 +39,7 @@ abbrev pub Lived : ℕ → List Moment → Life → Folder → Type 0
 Lived file start life folder =
     (now : List Moment) × Since start now (InFile file (Follows Keeps))
     × (((life.sure ≡ []) × (life.unsure ≡ None) × MightHaveLeft start now folder)
-        ⊎ ((log : BlockLog) × Becomes start now (InFile file (IsOpened log)) × Appends file log now life.sure life.unsure folder))
+    ⊎ ((log : BlockLog) × Becomes start now (InFile file (IsOpened log)) × Appends file log now life.sure life.unsure folder))
 
 -- The bytes that crashes have left in a file behind these lives, the newest of them first. It was empty before the first, and each
 -- found what the crash before it had left.

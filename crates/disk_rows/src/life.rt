@@ -54,11 +54,7 @@ fn go<D: Disk>(
     append_all(disk, log, bodies, &mut life.answered)
 }
 
-fn read_all<D: Disk>(
-    disk: &mut D,
-    log: &BlockLog,
-    found: &mut List<Found>,
-) -> Result<(), LogFault>
+fn read_all<D: Disk>(disk: &mut D, log: &BlockLog, found: &mut List<Found>) -> Result<(), LogFault>
     requires usable { IsFalse log.now.spent }
     requires is_open { WhereTold (D.moments disk.old) (λ now. (bodies : List Body) × IsOpen log.now bodies (now log.now.file)) }
     ensures same { D.moments disk.new ≡ D.moments disk.old }
