@@ -1,5 +1,5 @@
 //! A disk over a folder that times its syncs.
-ghost use Rattle.std.specs.Prelude.{[]};
+ghost use Rattle.std.specs.Prelude.{◌≡◌, []};
 
 use sf_disk::{Disk, FolderDisk};
 use sf_outside::Fault;
@@ -34,7 +34,9 @@ where
     }
 
     // Counts one sync that began then.
-    fn count(&mut self, began: io::Result<Instant>) {
+    fn count(&mut self, began: io::Result<Instant>)
+        ensures { self.new.disk ≡ self.old.disk }
+    {
         self.syncs = self.syncs.saturating_add(1);
         if let Ok(began) = began {
             if let Ok(took) = began.elapsed(&self.clock) {
