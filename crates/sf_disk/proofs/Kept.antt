@@ -1,11 +1,10 @@
 -- A disk in memory keeps its moments.
 use Rattle.std.proofs.Common.{◌≡◌, ◌≢◌, inl, inr, ℕ, zero, suc, ◌+◌, ◌≤◌, Bool, true, false, ◌==◌, nat_le, if◌then◌else◌, List, [], ◌∷◌, ◌++◌, length, take, drop, replicate, refl, sym, ◌∙◌, ap, subst, arith, length-append, length-drop, append_assoc, Some}
 use Rattle.std.proofs.lemmas.Bool.Decides.{nat_tests}
-use Rattle.std.proofs.lemmas.Bool.{cases_eq}
 use Rattle.std.proofs.lemmas.List.{take_at, drop_at, length-take-le, length-take, take_min, take_all, length-replicate}
-use Rattle.sf_disk.specs.Images.{FileState, Step, Wrote, Shrank, Leaves, Reaches, Follows, Done, Synced, Torn, Shortened, patched}
-use Rattle.sf_disk.specs.Moments.{Moment, newest, Since, Becomes, InFile, IsImage}
-use Rattle.sf_disk.specs.Memory.{Files, file_of, file_named, state_after, moment_after, moments_from, moments_of, moment_behind, now_of, first_moment, seen_after, ReadsAs, crashed, filled, filled_in, filler, image_after}
+use Rattle.sf_disk.specs.Images.{FileState, Step, Wrote, Shrank, Leaves, Reaches, Done, Synced, Torn, Shortened, patched}
+use Rattle.sf_disk.specs.Moments.{Moment, newest, Since, Becomes, InFile}
+use Rattle.sf_disk.specs.Memory.{Files, file_of, file_named, state_after, moment_after, moments_from, moments_of, moment_behind, now_of, first_moment, seen_after, ReadsAs, crashed, filled, filler, image_after}
 use Rattle.sf_disk.specs.declared.change.Change.{Change}
 use Rattle.sf_disk.specs.declared.change.Change.TheVariants.{Write, Cut, Sync}
 

@@ -1,5 +1,5 @@
 -- Which calls on a disk in memory fail.
-use Rattle.std.specs.Prelude.{◌≡◌, ◌⊎◌, ℕ, ◌+◌, ◌-◌, ◌^◌, ◌≤◌, min, List, Contains, Option, None, IsSomeAnd}
+use Rattle.std.specs.Prelude.{◌≡◌, ◌⊎◌, ℕ, ◌+◌, ◌-◌, ◌^◌, ◌≤◌, min, List, Contains, None, IsSomeAnd}
 use Rattle.sf_disk.specs.declared.call_count.CallCount.{CallCount}
 
 -- no call was made yet, the listed ones are to fail, and none is to stop all

@@ -118,7 +118,15 @@ impl Disk for MemoryDisk {
 
     ghost faults = { λ disk. disk.count.faults };
 
-    fn len(&mut self, file: u32) -> Result<u64, Fault> {
+    fn len(&mut self, file: u32) -> Result<u64, Fault>
+        ensures len { IfOk result (λ n. WhereTold (moments_of self.old.first self.old.changes.items) (λ now. n ≡ length (now file).seen)) }
+        ensures bound { IfOk result (λ n. n ≤ 2 ^ 62) }
+        ensures same { moments_of self.new.first self.new.changes.items ≡ moments_of self.old.first self.old.changes.items }
+        ensures cause { HasCause self.old.count.faults self.new.count.faults result }
+        // It fails exactly where it is listed, or all have stopped.
+        ensures fails { IsErrOf result HasFailed ↔ FailsNext self.old.count }
+        ensures counted { CountsOne self.old.count self.new.count }
+    {
         self.count.enter()?;
         let len = file_in(self.seen.as_slice(), file).len() as u64;
         if len > LONGEST {
@@ -127,13 +135,28 @@ impl Disk for MemoryDisk {
         Ok(len)
     }
 
-    fn read(&mut self, file: u32, at: u64, into: &mut [u8]) -> Result<(), Fault> {
+    fn read(&mut self, file: u32, at: u64, into: &mut [u8]) -> Result<(), Fault>
+        requires { WhereTold (moments_of self.old.first self.old.changes.items) (λ now. at + length into.old ≤ length (now file).seen) }
+        ensures read { OnOk result (WhereTold (moments_of self.old.first self.old.changes.items) (λ now. into.new ≡ take (length into.old) (drop at (now file).seen))) }
+        ensures same { moments_of self.new.first self.new.changes.items ≡ moments_of self.old.first self.old.changes.items }
+        ensures cause { HasCause self.old.count.faults self.new.count.faults result }
+        ensures fails { IsErrOf result HasFailed ↔ FailsNext self.old.count }
+        ensures counted { CountsOne self.old.count self.new.count }
+    {
         self.count.enter()?;
         copy_from(file_in(self.seen.as_slice(), file), at, into);
         Ok(())
     }
 
-    fn write_at(&mut self, file: u32, at: u64, bytes: &[u8]) -> Result<(), Fault> {
+    fn write_at(&mut self, file: u32, at: u64, bytes: &[u8]) -> Result<(), Fault>
+        requires { WhereTold (moments_of self.old.first self.old.changes.items) (λ now. at ≤ length (now file).seen) }
+        ensures wrote { OnOk result (Becomes (moments_of self.old.first self.old.changes.items) (moments_of self.new.first self.new.changes.items) (InFile file (Done (Torn at (length bytes.now)) (λ old. patched old at bytes.now)))) }
+        ensures bound { OnOk result (at + length bytes.now ≤ 2 ^ 62) }
+        ensures meanwhile { Since (moments_of self.old.first self.old.changes.items) (moments_of self.new.first self.new.changes.items) (InFile file (Follows (Torn at (length bytes.now)))) }
+        ensures cause { HasCause self.old.count.faults self.new.count.faults result }
+        ensures fails { IsErrOf result HasFailed ↔ FailsNext self.old.count }
+        ensures counted { CountsOne self.old.count self.new.count }
+    {
         self.count.enter()?;
         if at > LONGEST || bytes.len() as u64 > LONGEST - at {
             return Err(Fault::OutOfMemory);
@@ -143,13 +166,26 @@ impl Disk for MemoryDisk {
         Ok(())
     }
 
-    fn cut(&mut self, file: u32, len: u64) -> Result<(), Fault> {
+    fn cut(&mut self, file: u32, len: u64) -> Result<(), Fault>
+        requires { WhereTold (moments_of self.old.first self.old.changes.items) (λ now. len ≤ length (now file).seen) }
+        ensures shortened { OnOk result (Becomes (moments_of self.old.first self.old.changes.items) (moments_of self.new.first self.new.changes.items) (InFile file (Done (Shortened len) (take len)))) }
+        ensures meanwhile { Since (moments_of self.old.first self.old.changes.items) (moments_of self.new.first self.new.changes.items) (InFile file (Follows (Shortened len))) }
+        ensures cause { HasCause self.old.count.faults self.new.count.faults result }
+        ensures fails { IsErrOf result HasFailed ↔ FailsNext self.old.count }
+        ensures counted { CountsOne self.old.count self.new.count }
+    {
         self.count.enter()?;
         self.change(Change::Cut { file, len })?;
         Ok(())
     }
 
-    fn sync(&mut self, file: u32) -> Result<(), Fault> {
+    fn sync(&mut self, file: u32) -> Result<(), Fault>
+        ensures synced { OnOk result (Becomes (moments_of self.old.first self.old.changes.items) (moments_of self.new.first self.new.changes.items) (InFile file Synced)) }
+        ensures meanwhile { Since (moments_of self.old.first self.old.changes.items) (moments_of self.new.first self.new.changes.items) (InFile file (Follows Same)) }
+        ensures cause { HasCause self.old.count.faults self.new.count.faults result }
+        ensures fails { IsErrOf result HasFailed ↔ FailsNext self.old.count }
+        ensures counted { CountsOne self.old.count self.new.count }
+    {
         self.count.enter()?;
         self.change(Change::Sync { file })?;
         Ok(())
