@@ -7,7 +7,8 @@ use Rattle.block_log.specs.declared.gate.Gate.TheVariants.{Closed, Block, Cut}
 -- these bytes begin with that gate
 abbrev pub Begins : Gate → List ℕ → Type 0
 Begins Closed bytes = (tail : List ℕ) × (bytes ≡ 0 ∷ tail)
-Begins (Block len) bytes = (gate : ℕ) × (body : Body) × (rest : List ℕ) × (gate ≢ 0) × (length body ≡ len) × (len < 2 ^ 64) × (bytes ≡ gate ∷ framed body ++ rest)
+Begins (Block len) bytes =
+    (gate : ℕ) × (body : Body) × (rest : List ℕ) × (gate ≢ 0) × (length body ≡ len) × (len < 2 ^ 64) × (bytes ≡ gate ∷ framed body ++ rest)
 Begins Cut bytes = (gate : ℕ) × (tail : List ℕ) × (gate ≢ 0) × (bytes ≡ gate ∷ tail) × IsCut tail
 
 -- its block and the next gate fit into so many bytes

@@ -56,4 +56,5 @@ MayHold (life ∷ earlier) bodies =
     (held : List Body) × MayHold earlier held × ((bodies ≡ held ++ life.sure) ⊎ (bodies ≡ held ++ life.sure ++ option_to_list life.unsure))
 
 abbrev pub HoldsWhatWasAnswered : Type 0
-HoldsWhatWasAnswered = (file : ℕ) (lives : List Life) (bytes : List ℕ) → LeftBehind file lives bytes → (bodies : List Body) × StandsFor bytes bodies × MayHold lives bodies
+HoldsWhatWasAnswered =
+    (file : ℕ) (lives : List Life) (bytes : List ℕ) → LeftBehind file lives bytes → (bodies : List Body) × StandsFor bytes bodies × MayHold lives bodies
