@@ -2,6 +2,9 @@
 use Rattle.std.proofs.Common.{◌≡◌, ◌∙◌, sym, ap, subst, ℕ, zero, suc, ◌+◌, ◌<◌, Bool, true, false, cond, List, [], ◌∷◌, ◌++◌, length, drop, take, get_or, arith, Option, Some, None, slice_get, refl}
 use Rattle.std.specs.Prelude.{find, ◌&&◌, ◌||◌}
 use Rattle.std.specs.List.{list_any}
+use Rattle.std.specs.Option.{option_map_or}
+use Rattle.std.specs.BTreeMap.{BTreeMap, get}
+use Rattle.std.specs.BTreeSet.{BTreeSet, contains}
 use Rattle.std.specs.Bool.{Decides}
 use Rattle.std.specs.declared.cmp.Ordering.{Ordering}
 use Rattle.std.specs.Ordering.{is_eq}
@@ -20,7 +23,7 @@ use Rattle.typed_values.proofs.Sameness.{same_name-Decides}
 use Rattle.typed_values.proofs.Orders.{exact_names}
 use Rattle.address_routing.specs.declared.module.Endpoint.{Endpoint}
 use Rattle.address_routing.specs.Routing.{is_exact, is_wide}
-use Rattle.address_routing.specs.Kept.{name_order, text_order, endpoint_at}
+use Rattle.address_routing.specs.Kept.{name_order, text_order, endpoint_at, has_name}
 
 names_total : IsTotalOrder name_order
 names_total = then_total (on_total (λ (n : TypeName). n.namespace) nat_list_cmp_total) (on_total (λ (n : TypeName). n.name) nat_list_cmp_total)
@@ -73,25 +76,58 @@ noted_more test endpoints place endpoint before after inside here rest now =
     go true e = slice_get_within endpoints place endpoint inside ∙ ap Some here
     go false e = rest
 
--- the name behind those that are in the set
-pub any_more : (names : List TypeName) (place : ℕ) (item key name : TypeName) (before after : Bool) →
-    place < length names → get_or names place item ≡ item → key ≡ item →
+-- the name behind those that are noted
+pub any_more : (names : List TypeName) (place : ℕ) (item name : TypeName) (before after : Bool) →
+    place < length names → get_or names place item ≡ item →
     before ≡ list_any (same_name name) (take place names) →
-    after ≡ cond (is_eq (name_order key name)) true before →
+    after ≡ (same_name name item || before) →
     after ≡ list_any (same_name name) (take (place + 1) names)
-any_more names place item key name before after inside here is rest now =
-    now ∙ (λ i. cond (test i) true (rest i)) ∙ sym (or_comm (same_name name item) (list_any (same_name name) (take place names)))
+any_more names place item name before after inside here rest now =
+    now ∙ ap (λ b. same_name name item || b) rest ∙ or_comm (same_name name item) (list_any (same_name name) (take place names))
     ∙ sym (ap (list_any (same_name name)) (take_more names place item inside ∙ ap (λ x. take place names ++ x ∷ []) here) ∙ list_any-append (same_name name) (take place names) (item ∷ []) ∙ ap (λ b. list_any (same_name name) (take place names) || b) (or-false (same_name name item)))
   where
-    test : is_eq (name_order key name) ≡ same_name name item
-    test = name_test key name ∙ ap (same_name name) is
-
     or-false : (b : Bool) → (b || false) ≡ b
     or-false false = refl
     or-false true = refl
 
-    or_comm : (a b : Bool) → (b || a) ≡ cond a true b
+    or_comm : (a b : Bool) → (a || b) ≡ (b || a)
     or_comm false false = refl
     or_comm false true = refl
     or_comm true false = refl
     or_comm true true = refl
+
+-- what is noted after one name more
+pub name_more : (noted name : TypeName) (key part : List ℕ) (found : Option (BTreeSet (List ℕ))) (set more : BTreeSet (List ℕ)) (old mid new : BTreeMap (List ℕ) (BTreeSet (List ℕ))) →
+    key ≡ noted.namespace → part ≡ noted.name →
+    found ≡ get text_order old noted.namespace →
+    contains text_order set name.name ≡ option_map_or (λ s. contains text_order s name.name) found false →
+    contains text_order more name.name ≡ cond (is_eq (text_order part name.name)) true (contains text_order set name.name) →
+    get text_order mid name.namespace ≡ cond (is_eq (text_order noted.namespace name.namespace)) None (get text_order old name.namespace) →
+    get text_order new name.namespace ≡ cond (is_eq (text_order key name.namespace)) (Some more) (get text_order mid name.namespace) →
+    has_name new name ≡ (same_name name noted || has_name old name)
+unfolding same_name
+name_more noted name key part found set more old mid new keyed parted found_is set_is more_is mid_is new_is =
+    ap at new_is ∙ go (same_bytes name.namespace noted.namespace) refl
+  where
+    at : Option (BTreeSet (List ℕ)) → Bool
+    at o = option_map_or (λ s. contains text_order s name.name) o false
+
+    here : (bytes : List ℕ) → bytes ≡ noted.namespace → is_eq (text_order bytes name.namespace) ≡ same_bytes name.namespace noted.namespace
+    here bytes e = text_test bytes name.namespace ∙ ap (same_bytes name.namespace) e
+
+    or_is : (b h : Bool) → cond b true h ≡ (b || h)
+    or_is false h = refl
+    or_is true h = refl
+
+    go : (v : Bool) → same_bytes name.namespace noted.namespace ≡ v →
+        at (cond (is_eq (text_order key name.namespace)) (Some more) (get text_order mid name.namespace)) ≡ ((same_bytes name.namespace noted.namespace && same_bytes name.name noted.name) || at (get text_order old name.namespace))
+    go true e =
+        let same : name.namespace ≡ noted.namespace = (bytes_decides name.namespace noted.namespace).0 e in
+        ap (λ b. at (cond b (Some more) (get text_order mid name.namespace))) (here key keyed ∙ e)
+        ∙ more_is ∙ (λ i. cond ((text_test part name.name ∙ ap (same_bytes name.name) parted) i) true ((set_is ∙ ap at (found_is ∙ ap (get text_order old) (sym same))) i))
+        ∙ or_is (same_bytes name.name noted.name) (at (get text_order old name.namespace))
+        ∙ sym (ap (λ b. (b && same_bytes name.name noted.name) || at (get text_order old name.namespace)) e)
+    go false e =
+        ap (λ b. at (cond b (Some more) (get text_order mid name.namespace))) (here key keyed ∙ e)
+        ∙ ap at (mid_is ∙ ap (λ b. cond b None (get text_order old name.namespace)) (here noted.namespace (λ i. noted.namespace) ∙ e))
+        ∙ sym (ap (λ b. (b && same_bytes name.name noted.name) || at (get text_order old name.namespace)) e)

@@ -1,5 +1,5 @@
 -- Where an HTTP request to a URL goes (URL Standard, section 4).
-use Rattle.std.specs.Prelude.{ℕ, ◌^◌, nat_lt, List, [], ◌∷◌, ◌++◌, length, codes, bytes_eq, not, ◌&&◌, if◌then◌else◌, Option, Some, None, is_none, unwrap_or, Result, Ok, Err}
+use Rattle.std.specs.Prelude.{ℕ, ◌^◌, nat_lt, List, [], ◌∷◌, ◌++◌, length, codes, bytes_eq, not, ◌&&◌, if◌then◌else◌, Option, None, is_none, unwrap_or, Ok, Err}
 use Rattle.std.specs.Option.{option_map, option_map_or}
 use Rattle.url.specs.Parts.{Parts, has_credentials, nonempty_host}
 use Rattle.url.specs.Host.{host_text}

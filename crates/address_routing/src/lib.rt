@@ -2,14 +2,14 @@
 #![tactic(auto)]
 
 mod http_target;
-mod job_text;
 mod maps;
 mod module;
 mod partition;
 mod routes;
+mod text;
 
 pub use http_target::{HttpTarget, UrlFault, split_url};
-pub use job_text::job_text;
 pub use module::{Endpoint, IngressSpec, Module};
 pub use partition::{key_group, partition_of};
 pub use routes::Routes;
+pub use text::job_text;

@@ -1,13 +1,13 @@
 //! Maps by name, made of lists.
-ghost use Rattle.std.specs.Prelude.{◌≡◌, IfOk, OnOk, Some, find, if◌then◌else◌};
+ghost use Rattle.std.specs.Prelude.{◌≡◌, ℕ, List, false, IfOk, OnOk, Some, find, ◌||◌, if◌then◌else◌};
 ghost use Rattle.std.specs.List.{list_any};
-ghost use Rattle.std.specs.Option.{option_copied};
-ghost use Rattle.std.specs.BTreeMap.{get};
+ghost use Rattle.std.specs.Option.{option_copied, option_map_or};
 ghost use Rattle.std.specs.BTreeSet.{contains};
+ghost use Rattle.std.specs.BTreeMap.{get};
 ghost use Rattle.typed_values.specs.declared.name.TypeName.{TypeName};
 ghost use Rattle.typed_values.specs.Sameness.{same_name};
 ghost use Rattle.address_routing.specs.Routing.{is_exact, is_wide};
-ghost use Rattle.address_routing.specs.Kept.{name_order, text_order, endpoint_at};
+ghost use Rattle.address_routing.specs.Kept.{name_order, text_order, endpoint_at, has_name};
 
 use crate::Endpoint;
 use proto_wire::{Mem, Text, TryClone};
@@ -44,15 +44,37 @@ pub(crate) fn wide_places(alloc: Global, endpoints: &[Endpoint]) -> Mem<BTreeMap
     Ok(places)
 }
 
-/// The names of a list.
-pub(crate) fn names_in(alloc: Global, names: &[TypeName]) -> Mem<BTreeSet<TypeName>>
-    ensures { IfOk result (λ set. (name : TypeName) → contains name_order set name ≡ list_any (same_name name) names.now) }
+/// The names of a list, by their namespaces.
+pub(crate) fn names_in(alloc: Global, list: &[TypeName]) -> Mem<BTreeMap<Text, BTreeSet<Text>>>
+    ensures { IfOk result (λ names. (name : TypeName) → has_name names name ≡ list_any (same_name name) list.now) }
 {
-    let mut set = BTreeSet::new(alloc);
-    for name in names {
-        set.insert(name.try_clone(alloc)?)?;
+    let mut names = BTreeMap::new(alloc);
+    for name in list {
+        note_name(alloc, &mut names, name)?;
     }
-    Ok(set)
+    Ok(names)
+}
+
+/// Notes a name.
+fn note_name(alloc: Global, names: &mut BTreeMap<Text, BTreeSet<Text>>, noted: &TypeName) -> Mem<()>
+    ensures { OnOk result ((name : TypeName) → has_name names.new name ≡ (same_name name noted.now || has_name names.old name)) }
+{
+    let key = noted.namespace.try_clone(alloc)?;
+    let name = noted.name.try_clone(alloc)?;
+    let mut set = or_empty(alloc, names.remove(&noted.namespace));
+    set.insert(name)?;
+    names.insert(key, set)?;
+    Ok(())
+}
+
+/// A set, or the empty one where there is none.
+fn or_empty(alloc: Global, found: Option<BTreeSet<Text>>) -> BTreeSet<Text>
+    ensures { (name : List ℕ) → contains text_order result name ≡ option_map_or (λ set. contains text_order set name) found false }
+{
+    match found {
+        Some(set) => set,
+        None => BTreeSet::new(alloc),
+    }
 }
 
 /// Notes the place of an endpoint for one name.
@@ -89,6 +111,20 @@ fn note_wide(
         places.insert(endpoint.pattern.namespace.try_clone(alloc)?, place)?;
     }
     Ok(())
+}
+
+/// Whether a name is noted.
+pub(crate) fn has_name(
+    names: &BTreeMap<Text, BTreeSet<Text>>,
+    namespace: &Text,
+    name: &Text,
+) -> bool
+    ensures { result ≡ has_name names.now (record { namespace = namespace.now; name = name.now }) }
+{
+    match names.get(namespace) {
+        Some(set) => set.contains(name),
+        None => false,
+    }
 }
 
 /// The endpoint that stands at a place, if there is one.

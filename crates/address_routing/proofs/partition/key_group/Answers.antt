@@ -1,4 +1,4 @@
-use Rattle.std.proofs.Common.{◌≡◌, ◌∙◌, ap, ◌%◌, ℕ}
+use Rattle.std.proofs.Common.{◌≡◌, ◌∙◌, ap, ◌%◌}
 use Rattle.proto_wire.specs.Message.{spelled_bytes}
 use Rattle.address_routing.specs.Partitions.{fnv_1a, key_group}
 use Rattle.address_routing.proofs.Hashes.{whole}

@@ -2,7 +2,7 @@ use Rattle.std.proofs.Common.{◌≡◌, ◌++◌, drop, map}
 use Rattle.std.specs.String.{string_bytes}
 use Rattle.typed_values.specs.Escape.{name_text}
 use Rattle.address_routing.specs.JobText.{rest_of_line}
-use Rattle.address_routing.proofs.job_text.with_targets.Given as goal
+use Rattle.address_routing.proofs.text.with_targets.Given as goal
 
 -- what is written, and the names that are left
 abbrev pub invariant-loop-target : goal.invariant-loop-target

@@ -1,7 +1,7 @@
 use Rattle.std.proofs.Common.{◌≡◌, ◌++◌, drop}
 use Rattle.std.specs.String.{string_bytes}
 use Rattle.typed_values.specs.Escape.{escaped}
-use Rattle.address_routing.proofs.job_text.with_escaped.Given as goal
+use Rattle.address_routing.proofs.text.with_escaped.Given as goal
 
 -- what is written, and what the bytes that are left add
 abbrev pub invariant-loop-byte : goal.invariant-loop-byte

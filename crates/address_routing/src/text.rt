@@ -93,6 +93,14 @@ fn with_ingress(text: String, ingress: &IngressSpec) -> Mem<String>
     let text = with_words(text, "ingress ")?;
     let text = with_name(text, &ingress.id)?;
     let text = with_number(text, u64::from(ingress.splits))?;
+    with_records(text, ingress)
+}
+
+/// The type of an ingress' values, and its targets, each behind a space, and LF.
+fn with_records(text: String, ingress: &IngressSpec) -> Mem<String>
+    ensures { IfOk result (λ more. string_bytes more
+        ≡ string_bytes text ++ rest_of_line (escaped ingress.now.value_type ∷ map name_text ingress.now.targets)) }
+{
     let text = with_words(text, " ")?;
     let text = with_escaped(text, &ingress.value_type)?;
     with_targets(text, ingress.targets.as_slice())
