@@ -3,3 +3,4 @@ pub mod Kept
 pub mod Urls
 pub mod Partitions
 pub mod JobText
+pub mod Plain

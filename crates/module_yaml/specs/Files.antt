@@ -1,12 +1,11 @@
 -- What a module file means: the module of its documents, or the first refusal.
-use Rattle.std.specs.Prelude.{◌≡◌, ℕ, ◌+◌, nat_lt, nat_le, Bool, if◌then◌else◌, List, [], ◌∷◌, ◌++◌, length, slice_get, codes, Option, Some, None, is_some, unwrap_or, Result, Ok, Err}
+use Rattle.std.specs.Prelude.{◌≡◌, ℕ, ◌+◌, nat_lt, nat_le, Bool, true, if◌then◌else◌, List, [], ◌∷◌, ◌++◌, length, slice_get, codes, Option, Some, None, is_some, unwrap_or, Result, Ok, Err}
 use Rattle.std.specs.Option.{option_map_or}
 use Rattle.std.specs.List.{list_any}
 use Rattle.proto_wire.specs.declared.module_kind.ModuleKind.TheVariants.{DuplicateId, NoEndpoint, NoIngress, TooMany}
 use Rattle.typed_values.specs.declared.name.TypeName.{TypeName}
 use Rattle.typed_values.specs.Pattern.{same_pattern}
 use Rattle.typed_values.specs.Sameness.{same_name}
-use Rattle.typed_values.specs.Tables.{empty_name}
 use Rattle.address_routing.specs.declared.module.Module.{Module}
 use Rattle.address_routing.specs.Routing.{endpoint_of, splits_in}
 use Rattle.yaml_block.specs.declared.node.Node.{Node, out-Node}
@@ -20,7 +19,7 @@ use Rattle.module_yaml.specs.declared.keys.Kind.TheVariants as kinds
 use Rattle.module_yaml.specs.declared.part.Part.{Part}
 use Rattle.module_yaml.specs.declared.part.Part.TheVariants as part
 use Rattle.module_yaml.specs.Nodes.{items_of}
-use Rattle.module_yaml.specs.Mappings.{◌orElse◌, refused, pair_of, pairs_under, value, value_or, mapping_refusal}
+use Rattle.module_yaml.specs.Mappings.{◌orElse◌, refused, pair_of, pairs_under, value, mapping_refusal}
 use Rattle.module_yaml.specs.Values.{target_of}
 use Rattle.module_yaml.specs.Keys.{kind, spec, document_keys, spec_keys, part_of}
 
@@ -86,10 +85,14 @@ document_refusal m node =
 
 -- ---- targets without an endpoint
 
+-- an endpoint is for a target
+abbrev pub is_item_served : Module → Result TypeName Refusal → Bool
+is_item_served m (Ok name) = is_some (endpoint_of m name)
+is_item_served m (Err refusal) = true
+
 abbrev pub first_unserved : Module → List Node → Option Refusal
 first_unserved m [] = None
-first_unserved m (item ∷ items) =
-    if is_some (endpoint_of m (value_or empty_name (target_of item))) then first_unserved m items else refused (out-Node item).line NoEndpoint
+first_unserved m (item ∷ items) = if is_item_served m (target_of item) then first_unserved m items else refused (out-Node item).line NoEndpoint
 
 abbrev pub unserved_by : Module → Kind → List Pair → Option Refusal
 unserved_by m kinds.Ingress pairs = first_unserved m (target_items pairs)
@@ -152,3 +155,7 @@ module_in bytes = module_of (documents.read bytes)
 abbrev pub IsToldBy : ModuleFault → Result Module Refused → Type 0
 IsToldBy fault.OutOfMemory meaning = Unit {0}
 IsToldBy (fault.Refused document line kind) meaning = meaning ≡ Err (document, record { line = line; kind = kind })
+
+abbrev pub IsToldOf : Option Refused → ModuleFault → Type 0
+IsToldOf refusal fault.OutOfMemory = Unit {0}
+IsToldOf refusal (fault.Refused document line kind) = refusal ≡ Some (document, record { line = line; kind = kind })

@@ -30,11 +30,11 @@ pub(crate) enum Table {
 pub(crate) fn kind_in(text: &Text) -> Option<Kind>
     ensures { result ≡ kind_in text.now }
 {
-    if text.as_bytes() == b"io.statefun.endpoints.v2/http" {
+    if text.as_str() == "io.statefun.endpoints.v2/http" {
         Some(Kind::Endpoint)
-    } else if text.as_bytes() == b"local.log.v1/ingress" {
+    } else if text.as_str() == "local.log.v1/ingress" {
         Some(Kind::Ingress)
-    } else if text.as_bytes() == b"local.log.v1/egress" {
+    } else if text.as_str() == "local.log.v1/egress" {
         Some(Kind::Egress)
     } else {
         None

@@ -1,5 +1,5 @@
 //! What the `spec` of a document says.
-ghost use Rattle.std.specs.Prelude.{◌≡◌, ◌×◌, ◌≤◌, ◌<◌, ◌^◌, None, Some, false, IfOk, IfErr};
+ghost use Rattle.std.specs.Prelude.{◌≡◌, ◌≤◌, None, false, true, IfOk, IfErr};
 ghost use Rattle.module_yaml.specs.Mappings.{bad_value, lacks_key, reading, value, stands};
 ghost use Rattle.module_yaml.specs.Keys.{spec_keys, endpoint_of, ingress_of, part_of, functions, url_path_template, id, value_type, targets, number};
 ghost use Rattle.module_yaml.specs.Told.{IsTold, Reads};
@@ -130,13 +130,7 @@ fn targets(alloc: Global, pairs: &[Pair]) -> Result<List<TypeName>, Fault>
 }
 
 /// The number under a key, or the default where it does not stand.
-fn number(
-    pairs: &[Pair],
-    name: &str,
-    least: u64,
-    most: u64,
-    default: u64,
-) -> Result<u64, Fault>
+fn number(pairs: &[Pair], name: &str, least: u64, most: u64, default: u64) -> Result<u64, Fault>
     requires least { 1 ≤ least }
     requires most { default ≤ most }
     ensures value { Reads (reading (number name.now least most default) pairs.now) result }

@@ -36,7 +36,7 @@ fn name_in(alloc: Global, text: &Text) -> Mem<Option<TypeName>>
 fn is_star(name: &Text) -> bool
     ensures { result ≡ is_star name.now }
 {
-    name.as_bytes() == b"*"
+    name.as_str() == "*"
 }
 
 /// The name of a type, which is not `*`.
@@ -52,14 +52,22 @@ fn type_in(alloc: Global, text: &Text) -> Mem<Option<TypeName>>
 fn no_star(name: TypeName) -> Option<TypeName>
     ensures { result ≡ no_star name }
 {
-    if is_star(&name.name) { None } else { Some(name) }
+    if is_star(&name.name) {
+        None
+    } else {
+        Some(name)
+    }
 }
 
 /// A name without white space.
 fn id_in(alloc: Global, text: &Text) -> Mem<Option<TypeName>>
     ensures { IfOk result (λ found. found ≡ id_in text.now) }
 {
-    if text.as_bytes().iter().any(|byte| *byte == b' ' || *byte == b'\t') {
+    if text
+        .as_bytes()
+        .iter()
+        .any(|byte| *byte == b' ' || *byte == b'\t')
+    {
         return Ok(None);
     }
     type_in(alloc, text)
