@@ -1,0 +1,5 @@
+mod Targets
+mod Numbers
+mod Counting
+mod Serving
+mod Reading

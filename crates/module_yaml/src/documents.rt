@@ -273,12 +273,14 @@ fn is_same_name(one: &Option<Text>, other: &Option<Text>) -> bool
     }
 }
 
+#[tactic(auto, unfolding(typed_values::specs::Sameness::same_name))]
 fn has_ingress(ingresses: &[IngressSpec], id: &TypeName) -> bool
     ensures { result ≡ list_any (λ (other : IngressValue). same_name other.id id.now) ingresses.now }
 {
     ingresses.iter().any(|other| other.id == *id)
 }
 
+#[tactic(auto, unfolding(typed_values::specs::Sameness::same_name))]
 fn has_egress(egresses: &[TypeName], name: &TypeName) -> bool
     ensures { result ≡ list_any (λ other. same_name other name.now) egresses.now }
 {

@@ -1,7 +1,7 @@
 //! Which keys a mapping may have, and which it must have.
-ghost use Rattle.std.specs.Prelude.{◌≡◌, None, IfErr, OnOk, option_map};
-ghost use Rattle.module_yaml.specs.Mappings.{is_key, lacks_key, unknown_key, wrong_keys, stands};
-ghost use Rattle.module_yaml.specs.Keys.{keys_of, kind_in};
+ghost use Rattle.std.specs.Prelude.{◌≡◌, [], ◌∷◌, None, IfErr, OnOk, option_map};
+ghost use Rattle.module_yaml.specs.Mappings.{is_key, lacks_key, row, unknown_key, wrong_keys, stands};
+ghost use Rattle.module_yaml.specs.Keys.{keys_of, kind_in, max_num_batch_requests, max_batch_bytes, attempts, patience};
 ghost use Rattle.module_yaml.specs.Told.{IsTold};
 
 use crate::fault::{Fault, bad, refused};
@@ -80,12 +80,14 @@ impl Table {
 fn is_endpoint_key(key: &str) -> bool
     ensures { result ≡ is_key (keys_of (Table.Spec Kind.Endpoint)) key.now }
 {
-    key == "functions"
-        || key == "urlPathTemplate"
-        || key == "maxNumBatchRequests"
-        || key == "maxBatchBytes"
-        || key == "attempts"
-        || key == "patience"
+    key == "functions" || key == "urlPathTemplate" || is_limit_key(key)
+}
+
+/// Whether a key is one of those with the numbers of an endpoint.
+fn is_limit_key(key: &str) -> bool
+    ensures { result ≡ is_key (row max_num_batch_requests ∷ row max_batch_bytes ∷ row attempts ∷ row patience ∷ []) key.now }
+{
+    key == "maxNumBatchRequests" || key == "maxBatchBytes" || key == "attempts" || key == "patience"
 }
 
 /// Whether a key stands.

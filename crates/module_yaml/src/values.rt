@@ -1,7 +1,8 @@
 //! What stands under a key.
-ghost use Rattle.std.specs.Prelude.{◌≡◌, ◌≤◌, ◌<◌, ◌^◌, Some, None, codes, true, IfOk, IfSome};
+ghost use Rattle.std.specs.Prelude.{◌≡◌, ◌↔◌, ◌≤◌, ◌<◌, ◌^◌, slice_index, IfOk, IfSome, IsTrue};
+ghost use Rattle.std.specs.List.{list_any};
 ghost use Rattle.typed_values.specs.Names.{name_in};
-ghost use Rattle.module_yaml.specs.Values.{or_bad, scalar, no_star, type_in, id_in, pattern_of, pattern_in, some_text_in, braced_host, is_template, template_in, number_within, number_in, target_of, targets_of, some_targets, targets_at, is_star};
+ghost use Rattle.module_yaml.specs.Values.{or_bad, scalar, no_star, type_in, id_in, pattern_of, pattern_in, some_text_in, braced_host, is_template, template_in, number_within, number_in, target_of, targets_of, some_targets, targets_at, is_star, is_white};
 ghost use Rattle.module_yaml.specs.Told.{Reads};
 
 use crate::fault::{Fault, bad};
@@ -63,14 +64,23 @@ fn no_star(name: TypeName) -> Option<TypeName>
 fn id_in(alloc: Global, text: &Text) -> Mem<Option<TypeName>>
     ensures { IfOk result (λ found. found ≡ id_in text.now) }
 {
-    if text
-        .as_bytes()
-        .iter()
-        .any(|byte| *byte == b' ' || *byte == b'\t')
-    {
+    if has_white(text.as_bytes()) {
         return Ok(None);
     }
     type_in(alloc, text)
+}
+
+/// Whether there is a space or a tab.
+fn has_white(bytes: &[u8]) -> bool
+    ensures { result ≡ list_any is_white bytes.now }
+{
+    bytes.iter().any(|byte| is_white(*byte))
+}
+
+fn is_white(byte: u8) -> bool
+    ensures { result ≡ is_white byte }
+{
+    byte == b' ' || byte == b'\t'
 }
 
 fn pattern_in(alloc: Global, text: &Text) -> Mem<Option<TypePattern>>
@@ -153,11 +163,12 @@ fn some_text_in(alloc: Global, text: &Text) -> Mem<Option<Text>>
 
 /// The number that decimal digits without a leading zero write, where it is within these bounds.
 fn number_in(least: u64, most: u64, text: &Text) -> Option<u64>
-    requires { 1 ≤ least }
+    requires least { 1 ≤ least }
+    requires most { most < 2 ^ 64 }
     ensures value { result ≡ number_in least most text.now }
     ensures bound { IfSome result (λ number. number ≤ most) }
 {
-    if !is_led(text.as_bytes()) {
+    if !is_led(text.as_str()) {
         return None;
     }
     match text.as_str().parse::<u64>() {
@@ -166,10 +177,12 @@ fn number_in(least: u64, most: u64, text: &Text) -> Option<u64>
     }
 }
 
-/// Whether the first byte is a digit but no zero.
-fn is_led(bytes: &[u8]) -> bool {
-    match bytes {
-        [first, ..] => (b'1'..=b'9').contains(first),
+/// Whether the first byte is a digit and not 0.
+fn is_led(text: &str) -> bool
+    ensures { IsTrue result ↔ (49 ≤ slice_index text.now 0) × (slice_index text.now 0 ≤ 57) }
+{
+    match text.as_bytes() {
+        [first, ..] => b'1' <= *first && *first <= b'9',
         [] => false,
     }
 }
