@@ -3,3 +3,4 @@ mod Numbers
 mod Counting
 mod Serving
 mod Reading
+mod Telling
