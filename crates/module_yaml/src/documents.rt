@@ -1,7 +1,7 @@
 //! From a module file to its module.
 ghost use Rattle.std.specs.Prelude.{◌≡◌, ◌+◌, ◌<◌, ◌^◌, ◌||◌, None, Some, Ok, Option, true, false, codes, nat_le, nat_lt, IfOk, IfErr, OnOk, length, is_some, option_and_then};
 ghost use Rattle.std.specs.List.{list_any};
-ghost use Rattle.proto_wire.specs.declared.module_kind.ModuleKind.TheVariants.{TooMany};
+ghost use Rattle.proto_wire.specs.declared.module_kind.ModuleKind.TheVariants.{DuplicateId, TooMany};
 ghost use Rattle.typed_values.specs.Pattern.{same_pattern, same_pattern_name};
 ghost use Rattle.typed_values.specs.Sameness.{same_name};
 ghost use Rattle.address_routing.specs.declared.module.Endpoint.{Endpoint as EndpointValue};
@@ -233,16 +233,29 @@ fn check_new(job: &Module, part: &Part, pairs: &[Pair]) -> Result<(), Fault>
     ensures ok { OnOk result (duplicate job.now part.now pairs.now ≡ None) }
     ensures refused { IfErr result (IsTold (duplicate job.now part.now pairs.now)) }
 {
-    let (known, key) = match part {
-        Part::Endpoint(endpoint) => (
+    match part {
+        Part::Endpoint(endpoint) => refuse_known(
             has_pattern(job.endpoints.as_slice(), &endpoint.pattern),
-            "functions",
+            line_under("functions", pairs, 0),
         ),
-        Part::Ingress(ingress) => (has_ingress(job.ingresses.as_slice(), &ingress.id), "id"),
-        Part::Egress(name) => (has_egress(job.egresses.as_slice(), name), "id"),
-    };
+        Part::Ingress(ingress) => refuse_known(
+            has_ingress(job.ingresses.as_slice(), &ingress.id),
+            line_under("id", pairs, 0),
+        ),
+        Part::Egress(name) => refuse_known(
+            has_egress(job.egresses.as_slice(), name),
+            line_under("id", pairs, 0),
+        ),
+    }
+}
+
+/// Refuses what is known already.
+fn refuse_known(known: bool, line: u32) -> Result<(), Fault>
+    ensures ok { OnOk result (known ≡ false) }
+    ensures refused { IfErr result (λ fault. (known ≡ true) × (fault ≡ Fault.Refused (record { line = line; kind = DuplicateId }))) }
+{
     if known {
-        return Err(refused(line_under(key, pairs, 0), ModuleKind::DuplicateId));
+        return Err(refused(line, ModuleKind::DuplicateId));
     }
     Ok(())
 }

@@ -87,7 +87,14 @@ fn is_endpoint_key(key: &str) -> bool
 fn is_limit_key(key: &str) -> bool
     ensures { result ≡ is_key (row max_num_batch_requests ∷ row max_batch_bytes ∷ row attempts ∷ row patience ∷ []) key.now }
 {
-    key == "maxNumBatchRequests" || key == "maxBatchBytes" || key == "attempts" || key == "patience"
+    key == "maxNumBatchRequests" || key == "maxBatchBytes" || is_retry_key(key)
+}
+
+/// Whether a key is one of those that say how often a call is tried, and how long one waits for it.
+fn is_retry_key(key: &str) -> bool
+    ensures { result ≡ is_key (row attempts ∷ row patience ∷ []) key.now }
+{
+    key == "attempts" || key == "patience"
 }
 
 /// Whether a key stands.
