@@ -30,6 +30,7 @@ pub(crate) fn part_of(alloc: Global, kind: Kind, pairs: &[Pair]) -> Result<Part,
     }
 }
 
+#[tactic(auto, unfolding(crate::specs::Keys::spec_keys))]
 fn endpoint_of(alloc: Global, pairs: &[Pair]) -> Result<Endpoint, Fault>
     requires { lacks_key (spec_keys Kind.Endpoint) pairs.now ≡ false }
     ensures part { IfOk result (λ made. made ≡ endpoint_of pairs.now) }
@@ -52,6 +53,7 @@ fn endpoint_of(alloc: Global, pairs: &[Pair]) -> Result<Endpoint, Fault>
     })
 }
 
+#[tactic(auto, unfolding(crate::specs::Keys::spec_keys))]
 fn ingress_of(alloc: Global, pairs: &[Pair]) -> Result<IngressSpec, Fault>
     requires { lacks_key (spec_keys Kind.Ingress) pairs.now ≡ false }
     ensures part { IfOk result (λ made. made ≡ ingress_of pairs.now) }
@@ -70,6 +72,7 @@ fn ingress_of(alloc: Global, pairs: &[Pair]) -> Result<IngressSpec, Fault>
     })
 }
 
+#[tactic(auto, unfolding(crate::specs::Keys::spec_keys))]
 fn egress_of(alloc: Global, pairs: &[Pair]) -> Result<TypeName, Fault>
     requires { lacks_key (spec_keys Kind.Egress) pairs.now ≡ false }
     ensures part { IfOk result (λ made. made ≡ value id pairs.now) }
