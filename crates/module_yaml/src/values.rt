@@ -162,16 +162,16 @@ fn some_text_in(alloc: Global, text: &Text) -> Mem<Option<Text>>
 }
 
 /// The number that decimal digits without a leading zero write, where it is within these bounds.
-fn number_in(least: u64, most: u64, text: &Text) -> Option<u64>
+fn number_in(least: u64, most: u64, text: &str) -> Option<u64>
     requires least { 1 ≤ least }
     requires most { most < 2 ^ 64 }
     ensures value { result ≡ number_in least most text.now }
     ensures bound { IfSome result (λ number. number ≤ most) }
 {
-    if !is_led(text.as_str()) {
+    if !is_led(text) {
         return None;
     }
-    match text.as_str().parse::<u64>() {
+    match text.parse::<u64>() {
         Ok(number) => number_within(least, most, number),
         Err(_) => None,
     }
@@ -247,7 +247,7 @@ pub(crate) fn number_at(least: u64, most: u64, pair: &Pair) -> Result<u64, Fault
     let Some(text) = text_of(&pair.value) else {
         return Err(bad(pair.line));
     };
-    match number_in(least, most, text) {
+    match number_in(least, most, text.as_str()) {
         Some(number) => Ok(number),
         None => Err(bad(pair.line)),
     }
