@@ -2,6 +2,7 @@
 #![tactic(auto)]
 
 mod arguments;
+mod check;
 mod help;
 
 use proto_wire::{Bytes, Mem, Text};
@@ -40,6 +41,7 @@ fn status_of(rt: &HostRuntime) -> u8 {
 fn command(rt: &HostRuntime, words: &[String]) -> Mem<u8> {
     match words.first() {
         Some(word) if word.as_str() == "decode" => Ok(decode(rt, words)),
+        Some(word) if word.as_str() == "check" => check::check(rt, words),
         _ => run(rt, words),
     }
 }

@@ -1,0 +1,4 @@
+mod Hearing
+mod Written
+mod CheckAsked
+mod Checking

@@ -1,0 +1,178 @@
+//! The command `statefun check`: what a module file is made of.
+ghost use Rattle.std.specs.Prelude.{◌≡◌, ◌≢◌, [], ◌∷◌, ◌++◌, ℕ, List, Some, codes, map, IfOk, OnOk};
+ghost use Rattle.std.specs.Fmt.{decimal};
+ghost use Rattle.std.specs.String.{string_bytes};
+ghost use Rattle.sf_outside.specs.Told.{HasCause, Rose};
+ghost use Rattle.module_check.specs.CheckWords.{IsWrong};
+ghost use Rattle.module_check.specs.Check.{IsAnswered, IsAskedRun, IsCheckRun, IsChecked, Tells, check_end, check_status, check_text, outside, refused_line};
+
+use crate::check_help::check_help;
+use crate::check_words::{CheckAsk, read_check_words};
+use crate::reading::read_up_to;
+use crate::writing::write_whole;
+use address_routing::job_text;
+use itoa::Buffer;
+use module_yaml::{ModuleFault, read_module};
+use proto_wire::{Bytes, Mem, ModuleKind};
+use sf_outside::{Fault, Sink, Source};
+use std::alloc::Global;
+
+/// What a check comes to.
+#[derive(Clone, Copy, Debug)]
+pub enum CheckEnd {
+    /// The text of the module.
+    Checked,
+    /// The line of the first refusal.
+    ModuleRefused,
+    /// The text of help.
+    Help,
+    /// The line `usage`, since the words are wrong.
+    Usage,
+    /// The line `module fault`, since a read failed.
+    ModuleFault,
+}
+
+/// The most bytes of a module file.
+const LIMIT: usize = 1_048_576;
+
+/// Writes what the module file is made of that is read from `file`, to its end, as the text of its module to `out`.
+///
+/// The words are `check MODULE`, as `clap` reads them; the file that MODULE names is the caller's to open. Answers the status:
+/// 0 where the text, or that of `--help`, was written; 2 where the words are wrong, and `usage` was written; 3 where a read
+/// failed, and `module fault` was written; 4 where `module refused document D line L kind NAME` was written, for the first
+/// refusal; 11 where a write failed; 15 where memory ran out.
+pub fn statefun_check<S: Source, O: Sink>(
+    alloc: Global,
+    words: &[String],
+    file: &mut S,
+    out: &mut O,
+) -> u8
+    // What the words ask for was done.
+    ensures ran { IsCheckRun (map string_bytes words.now) (outside (S.left file.old) (S.faults file.old) (O.written out.old) (O.faults out.old))
+        (outside (S.left file.new) (S.faults file.new) (O.written out.new) (O.faults out.new)) result }
+
+    // 2 is given only where clap refuses the words, 3 only where a read failed, and 11 exactly where a write failed.
+    ensures usage { result ≡ 2 → IsWrong (map string_bytes words.now) }
+    ensures module_fault { result ≡ 3 → Rose (S.faults file.old) (S.faults file.new) }
+    ensures write_fault { result ≡ 11 → Rose (O.faults out.old) (O.faults out.new) }
+    ensures written { result ≢ 11 → O.faults out.new ≡ O.faults out.old }
+{
+    status(&end_of_words(alloc, words, file, out))
+}
+
+fn status(end: &Result<CheckEnd, Fault>) -> u8
+    ensures { result ≡ check_status end.now }
+{
+    match end {
+        Ok(CheckEnd::Checked) => 0,
+        Ok(CheckEnd::Help) => 0,
+        Ok(CheckEnd::Usage) => 2,
+        Ok(CheckEnd::ModuleFault) => 3,
+        Ok(CheckEnd::ModuleRefused) => 4,
+        Err(Fault::Failed) => 11,
+        Err(Fault::OutOfMemory) => 15,
+    }
+}
+
+fn end_of_words<S: Source, O: Sink>(
+    alloc: Global,
+    words: &[String],
+    file: &mut S,
+    out: &mut O,
+) -> Result<CheckEnd, Fault>
+    ensures ran { IsAskedRun (map string_bytes words.now) (outside (S.left file.old) (S.faults file.old) (O.written out.old) (O.faults out.old))
+        (outside (S.left file.new) (S.faults file.new) (O.written out.new) (O.faults out.new)) result }
+{
+    let ask = read_check_words(alloc, words)?;
+    answer(alloc, ask, file, out)
+}
+
+fn answer<S: Source, O: Sink>(
+    alloc: Global,
+    ask: CheckAsk,
+    file: &mut S,
+    out: &mut O,
+) -> Result<CheckEnd, Fault>
+    ensures answered { IsAnswered (Some ask) (outside (S.left file.old) (S.faults file.old) (O.written out.old) (O.faults out.old))
+        (outside (S.left file.new) (S.faults file.new) (O.written out.new) (O.faults out.new)) result }
+    ensures cause { HasCause (O.faults out.old) (O.faults out.new) result }
+{
+    match ask {
+        CheckAsk::Module => check_file(alloc, file, out),
+        CheckAsk::Help => tell(out, CheckEnd::Help, check_help().as_bytes()),
+        CheckAsk::Usage => tell(out, CheckEnd::Usage, b"usage\n"),
+    }
+}
+
+/// Reads a module file to the end, and tells what it is made of.
+fn check_file<S: Source, O: Sink>(
+    alloc: Global,
+    file: &mut S,
+    out: &mut O,
+) -> Result<CheckEnd, Fault>
+    ensures checked { IsChecked (outside (S.left file.old) (S.faults file.old) (O.written out.old) (O.faults out.old))
+        (outside (S.left file.new) (S.faults file.new) (O.written out.new) (O.faults out.new)) result }
+    ensures cause { HasCause (O.faults out.old) (O.faults out.new) result }
+{
+    match read_up_to(alloc, file, LIMIT) {
+        Ok(bytes) => tell_module(alloc, bytes.as_slice(), out),
+        Err(Fault::Failed) => tell(out, CheckEnd::ModuleFault, b"module fault\n"),
+        Err(Fault::OutOfMemory) => Err(Fault::OutOfMemory),
+    }
+}
+
+/// Tells the text of the bytes of a module file.
+fn tell_module<O: Sink>(alloc: Global, bytes: &[u8], out: &mut O) -> Result<CheckEnd, Fault>
+    ensures told { Tells (O.written out.old) (O.written out.new) (check_text bytes.now) (check_end bytes.now) result }
+    ensures cause { HasCause (O.faults out.old) (O.faults out.new) result }
+{
+    match read_module(alloc, bytes) {
+        Ok(job) => {
+            let text = job_text(alloc, &job)?;
+            tell(out, CheckEnd::Checked, text.as_bytes())
+        }
+        Err(
+            ModuleFault::Refused {
+                document,
+                line,
+                kind,
+            },
+        ) => {
+            let text = refused_line(alloc, document, line, kind)?;
+            tell(out, CheckEnd::ModuleRefused, text.as_slice())
+        }
+        Err(ModuleFault::OutOfMemory) => Err(Fault::OutOfMemory),
+    }
+}
+
+/// The line of a refusal.
+fn refused_line(alloc: Global, document: u32, line: u32, kind: ModuleKind) -> Mem<Bytes>
+    ensures { IfOk result (λ text. text ≡ refused_line (document, record { line = line; kind = kind })) }
+{
+    let mut text = Bytes::new(alloc);
+    text.append(b"module refused document ")?;
+    put_decimal(&mut text, document)?;
+    text.append(b" line ")?;
+    put_decimal(&mut text, line)?;
+    text.append(b" kind ")?;
+    text.append(kind.name().as_bytes())?;
+    text.push(b'\n')?;
+    Ok(text)
+}
+
+/// Adds a number in decimal.
+fn put_decimal(into: &mut Bytes, number: u32) -> Mem<()>
+    ensures { OnOk result (into.new ≡ into.old ++ decimal number) }
+{
+    let mut buffer = Buffer::new();
+    into.append(buffer.format(number).as_bytes())
+}
+
+/// Tells an end: writes its text.
+fn tell<O: Sink>(out: &mut O, told: CheckEnd, text: &[u8]) -> Result<CheckEnd, Fault>
+    ensures told { Tells (O.written out.old) (O.written out.new) text.now told result }
+    ensures cause { HasCause (O.faults out.old) (O.faults out.new) result }
+{
+    write_whole(out, text)?;
+    Ok(told)
+}

@@ -1,0 +1,6 @@
+mod Targets
+mod Numbers
+mod Counting
+mod Serving
+mod Reading
+mod Telling
