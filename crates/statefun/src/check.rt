@@ -1,8 +1,8 @@
 //! The command `check`: opens the module file, and shows a person where and why it is refused.
-use module_check::statefun_check;
 use module_yaml::{ModuleFault, read_module};
 use proto_wire::{Bytes, List, Mem, ModuleKind};
 use sf_outside::{MemorySource, ReaderSource, WriterSink};
+use statefun_cli::statefun_check;
 use std::alloc::{AllocError, Global};
 use std::fs;
 use std::io::Read;
@@ -13,10 +13,7 @@ const REFUSED: u8 = 4;
 /// Checks the module file that the words name.
 pub(crate) fn check(rt: &HostRuntime, words: &[String]) -> Mem<u8> {
     let mut out = WriterSink::new(rt.stdout());
-    let path = match words.get(1) {
-        Some(path) => path.as_str(),
-        None => "",
-    };
+    let path = path_in(words);
     let Ok(file) = fs::open(rt, path) else {
         // A file that cannot be opened is one whose reads fail.
         let mut calls = List::new(rt.alloc());
@@ -30,6 +27,22 @@ pub(crate) fn check(rt: &HostRuntime, words: &[String]) -> Mem<u8> {
         show_refusal(rt, path);
     }
     Ok(status)
+}
+
+/// The word MODULE of right words: it stands behind the first one, or behind `--`.
+fn path_in(words: &[String]) -> &str {
+    match words.get(1) {
+        Some(word) if word.as_str() == "--" => text_at(words, 2),
+        _ => text_at(words, 1),
+    }
+}
+
+/// The word at a place, or an empty text.
+fn text_at(words: &[String], place: usize) -> &str {
+    match words.get(place) {
+        Some(word) => word.as_str(),
+        None => "",
+    }
 }
 
 /// Writes to standard error where a module file is refused, with the line and a sentence. That this fails changes nothing.

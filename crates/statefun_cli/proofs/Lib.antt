@@ -15,5 +15,8 @@ pub mod Replayed
 pub mod Backing
 pub mod Apart
 pub mod Served
+pub mod Telling
 pub mod DecodeAsked
 pub mod Decoding
+pub mod CheckAsked
+pub mod Checking

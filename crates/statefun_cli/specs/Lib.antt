@@ -8,4 +8,7 @@ pub mod Running
 pub mod Plain
 pub mod Kinds
 pub mod DecodeWords
+pub mod Outside
 pub mod Decode
+pub mod CheckWords
+pub mod Check

@@ -1,4 +1,0 @@
-mod Hearing
-mod Written
-mod CheckAsked
-mod Checking
