@@ -3,4 +3,3 @@ pub mod RoundTrip
 pub mod Members
 pub mod Counts
 pub mod Pieces
-pub mod Agreeing
