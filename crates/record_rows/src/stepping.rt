@@ -1,9 +1,10 @@
 //! Rows of steps, one after the other, and of what the machine then holds.
 use crate::entries::{record, sender_of, step_of};
 use crate::job::{function, name, routes};
+use address_routing::Routes;
 use proto_wire::Mem;
 use row_text::{Failure, text_of};
-use run_record::{Entry, Machine, Routes, Step};
+use run_record::{Entry, Machine, Step};
 use sf_outside::IngressRecord;
 use std::alloc::Global;
 use typed_values::TypedValue;

@@ -22,9 +22,9 @@ use Rattle.request_reply.specs.declared.answer.EgressMessage.{EgressMessage}
 use Rattle.request_reply.specs.declared.answer.InvocationResponse.{InvocationResponse}
 use Rattle.std.proofs.lemmas.List.Sums.{sum_by-cons}
 use Rattle.sf_outside.specs.declared.ingress.IngressRecord.{IngressRecord}
-use Rattle.run_record.specs.declared.module.Module.{Module}
+use Rattle.address_routing.specs.declared.module.Module.{Module}
 use Rattle.run_record.specs.declared.entry.Reply.{Reply}
-use Rattle.run_record.specs.Routing.{letters_of}
+use Rattle.run_record.specs.Letters.{letters_of}
 use Rattle.run_record.specs.Machine.{took, Mail, posted_all, emitted, egress_name, picked_behind, picked, unpicked, letters_from, seen_after, served, taken_after, waiting_letter}
 use Rattle.request_reply.specs.Letters.{invocation_of}
 use Rattle.run_record.proofs.Picks.{count-push}

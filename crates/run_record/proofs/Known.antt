@@ -6,14 +6,14 @@ use Rattle.std.proofs.lemmas.Option.{slice_get_past, slice_get_read}
 use Rattle.std.proofs.lemmas.List.{take_more, take_all}
 use Rattle.sf_outside.specs.declared.ingress.IngressRecord.{IngressRecord}
 use Rattle.sf_outside.specs.Splits.{Lists, record_at, split_of, GrowTo, Grows}
-use Rattle.run_record.specs.declared.module.Module.{Module}
+use Rattle.address_routing.specs.declared.module.Module.{Module}
 use Rattle.run_record.specs.declared.entry.Entry.{Entry}
 use Rattle.run_record.specs.declared.entry.Step.{Step}
 use Rattle.run_record.specs.declared.entry.Step.TheVariants.{Take, Batch}
 use Rattle.run_record.specs.declared.entry.Reply.{Reply}
 use Rattle.run_record.specs.declared.machine.Machine.{Machine}
 use Rattle.run_record.specs.declared.replaying.Replayed.TheVariants.{State as Reached, NotAllowed}
-use Rattle.run_record.specs.Routing.{splits_in}
+use Rattle.address_routing.specs.Routing.{splits_in}
 use Rattle.run_record.specs.Machine.{State, first_state, step_after, replayed, served, took, step_with, next_record}
 use Rattle.run_record.proofs.LawsOfSteps.{step_after-with, take_step-some, batch_step-some, replayed-grown, replayed_push_on}
 use Rattle.run_record.specs.StateOf.{state_of}

@@ -12,7 +12,7 @@ use Rattle.typed_values.specs.declared.record.EgressRecord.{EgressRecord}
 use Rattle.typed_values.specs.Sameness.{same_name, same_address}
 use Rattle.sf_outside.specs.Splits.{Lists}
 use Rattle.request_reply.specs.declared.answer.EgressMessage.{EgressMessage}
-use Rattle.run_record.specs.declared.module.Module.{Module}
+use Rattle.address_routing.specs.declared.module.Module.{Module}
 use Rattle.run_record.specs.declared.entry.Entry.{Entry}
 use Rattle.run_record.specs.declared.entry.Step.{Step}
 use Rattle.run_record.specs.declared.entry.Step.TheVariants.{Take, Batch}

@@ -15,13 +15,14 @@ use Rattle.typed_values.proofs.Sameness.{same_sender-Decides, same_address-Decid
 use Rattle.sf_outside.specs.Splits.{Lists}
 use Rattle.request_reply.specs.declared.request.ToFunction.{ToFunction}
 use Rattle.request_reply.specs.declared.request.BatchInvocation.{BatchInvocation}
-use Rattle.run_record.specs.declared.module.Module.{Module}
-use Rattle.run_record.specs.declared.module.Endpoint.{Endpoint}
+use Rattle.address_routing.specs.declared.module.Module.{Module}
+use Rattle.address_routing.specs.declared.module.Endpoint.{Endpoint}
 use Rattle.run_record.specs.declared.entry.Entry.{Entry}
 use Rattle.run_record.specs.declared.entry.Step.{Step}
 use Rattle.run_record.specs.declared.entry.Step.TheVariants.{Take, Batch}
 use Rattle.run_record.specs.declared.entry.Reply.{Reply}
-use Rattle.run_record.specs.Routing.{letters_of, endpoint_of}
+use Rattle.address_routing.specs.Routing.{endpoint_of}
+use Rattle.run_record.specs.Letters.{letters_of}
 use Rattle.run_record.specs.Machine.{State, Mail, posted, posted_all, picked_behind, picked, unpicked, batch_of, shipped, is_within, request_of, letters_from, served, step_after, replayed, took, waiting_letter}
 use Rattle.request_reply.specs.Letters.{invocation_of}
 use Rattle.run_record.specs.Deliveries.{taken_by, numbers_taken, counting, arguments_of, letters_judged, letters_put, invocations_of, arguments_picked, delivered_by, put_in, delivered}

@@ -14,12 +14,13 @@ use Rattle.request_reply.specs.declared.answer.InvocationResponse.{InvocationRes
 use Rattle.request_reply.specs.declared.judging.Judged.{Judged}
 use Rattle.request_reply.specs.declared.judging.Judged.TheVariants.{Accept, Flaw}
 use Rattle.request_reply.specs.Valid.{verdict}
-use Rattle.run_record.specs.declared.module.Module.{Module}
+use Rattle.address_routing.specs.declared.module.Module.{Module}
 use Rattle.run_record.specs.declared.entry.Entry.{Entry}
 use Rattle.run_record.specs.declared.entry.Step.{Step}
 use Rattle.run_record.specs.declared.entry.Step.TheVariants.{Take, Batch}
 use Rattle.run_record.specs.declared.entry.Reply.{Reply}
-use Rattle.run_record.specs.Routing.{splits_in, letters_of}
+use Rattle.address_routing.specs.Routing.{splits_in}
+use Rattle.run_record.specs.Letters.{letters_of}
 use Rattle.run_record.specs.Machine.{State, took, next_record, step_with, take_step, request_of, response_of, served, batch_step, step_after, replayed}
 use Rattle.run_record.specs.Backed.{IsBackedReply, IsBackedStep, AreBacked}
 

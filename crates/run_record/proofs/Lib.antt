@@ -2,7 +2,6 @@ pub mod LawsOfSteps
 pub mod LawsOfEgress
 pub mod LawsOfMail
 pub mod Behind
-pub mod Templates
 pub mod Picks
 pub mod Kept
 pub mod Requests

@@ -7,7 +7,7 @@ use Rattle.request_reply.specs.declared.flaw.Flaw.{Flaw as FlawOf}
 use Rattle.request_reply.specs.declared.answer.InvocationResponse.{InvocationResponse}
 use Rattle.request_reply.specs.declared.judging.Judged.TheVariants.{Accept, Flaw}
 use Rattle.request_reply.specs.Valid.{verdict}
-use Rattle.run_record.specs.declared.module.Module.{Module}
+use Rattle.address_routing.specs.declared.module.Module.{Module}
 use Rattle.run_record.specs.declared.entry.Reply.{Reply}
 use Rattle.run_record.specs.Machine.{State, picked, request_of, response_of, served, batch_step}
 use Rattle.run_record.proofs.LawsOfSteps.{batch_step-is}

@@ -5,12 +5,12 @@ use Rattle.sf_outside.specs.declared.call.Exchange.{Exchange}
 use Rattle.sf_outside.specs.Splits.{Lists}
 use Rattle.request_reply.specs.declared.request.ToFunction.{ToFunction}
 use Rattle.request_reply.specs.Spelling.{to_spelling}
-use Rattle.run_record.specs.declared.module.Module.{Module}
+use Rattle.address_routing.specs.declared.module.Module.{Module}
 use Rattle.run_record.specs.declared.entry.Entry.{Entry}
 use Rattle.run_record.specs.declared.entry.Step.{Step}
 use Rattle.run_record.specs.declared.entry.Step.TheVariants.{Take, Batch}
 use Rattle.run_record.specs.declared.entry.Reply.{Reply}
-use Rattle.run_record.specs.Routing.{url_of}
+use Rattle.address_routing.specs.Routing.{url_of}
 use Rattle.run_record.specs.Machine.{State, request_of, step_after}
 
 -- an exchange gave this answer to the request of these picks, under this call, at the URL of the address' type

@@ -13,11 +13,11 @@ use Rattle.request_reply.specs.declared.request.BatchInvocation.{BatchInvocation
 use Rattle.request_reply.specs.declared.judging.Judged.{Judged}
 use Rattle.request_reply.specs.declared.judging.Judged.TheVariants.{Accept, Flaw}
 use Rattle.request_reply.specs.Valid.{verdict}
-use Rattle.run_record.specs.declared.module.Module.{Module}
+use Rattle.address_routing.specs.declared.module.Module.{Module}
 use Rattle.run_record.specs.declared.entry.Entry.{Entry}
 use Rattle.run_record.specs.declared.entry.Step.{Step}
 use Rattle.run_record.specs.declared.entry.Step.TheVariants.{Take, Batch}
-use Rattle.run_record.specs.Routing.{letters_of}
+use Rattle.run_record.specs.Letters.{letters_of}
 use Rattle.run_record.specs.Machine.{State, first_state, request_of, argument_of, letters_from, step_after, replayed}
 
 -- what each step of a record gives, in the state before it, joined in the record's order

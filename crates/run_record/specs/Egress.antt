@@ -11,7 +11,7 @@ use Rattle.request_reply.specs.declared.answer.EgressMessage.{EgressMessage}
 use Rattle.request_reply.specs.declared.judging.Judged.{Judged}
 use Rattle.request_reply.specs.declared.judging.Judged.TheVariants.{Accept, Flaw}
 use Rattle.request_reply.specs.Valid.{verdict}
-use Rattle.run_record.specs.declared.module.Module.{Module}
+use Rattle.address_routing.specs.declared.module.Module.{Module}
 use Rattle.run_record.specs.declared.entry.Entry.{Entry}
 use Rattle.run_record.specs.declared.entry.Step.{Step}
 use Rattle.run_record.specs.declared.entry.Step.TheVariants.{Take, Batch}

@@ -1,6 +1,6 @@
 pub mod Queues
 pub mod Keys
-pub mod Routing
+pub mod Letters
 pub mod Machine
 pub mod Backed
 pub mod Egress

@@ -27,13 +27,14 @@ use Rattle.request_reply.specs.declared.judging.Judged.TheVariants.{Accept, Flaw
 use Rattle.request_reply.specs.Letters.{invocation_of}
 use Rattle.request_reply.specs.Spelling.{to_spelling}
 use Rattle.request_reply.specs.Valid.{verdict}
-use Rattle.run_record.specs.declared.module.Module.{Module}
-use Rattle.run_record.specs.declared.module.Endpoint.{Endpoint}
+use Rattle.address_routing.specs.declared.module.Module.{Module}
+use Rattle.address_routing.specs.declared.module.Endpoint.{Endpoint}
 use Rattle.run_record.specs.declared.entry.Entry.{Entry}
 use Rattle.run_record.specs.declared.entry.Step.{Step}
 use Rattle.run_record.specs.declared.entry.Step.TheVariants.{Take, Batch}
 use Rattle.run_record.specs.declared.entry.Reply.{Reply}
-use Rattle.run_record.specs.Routing.{splits_in, endpoint_of, letters_of}
+use Rattle.address_routing.specs.Routing.{splits_in, endpoint_of}
+use Rattle.run_record.specs.Letters.{letters_of}
 
 -- ---- the state
 

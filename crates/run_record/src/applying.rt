@@ -2,14 +2,15 @@
 ghost use Rattle.std.specs.Prelude.{◌≡◌, IfOk, OnOk, OnErr, is_some, unwrap_or, nat_lt};
 ghost use Rattle.std.specs.Option.{option_copied};
 ghost use Rattle.run_record.specs.declared.entry.Step.TheVariants.{Take, Batch};
-ghost use Rattle.run_record.specs.Routing.{splits_in};
+ghost use Rattle.address_routing.specs.Routing.{splits_in};
 ghost use Rattle.run_record.specs.Machine.{batch_step, step_with, HasRoom};
 ghost use Rattle.run_record.specs.StateOf.{state_of};
 
 use crate::effects::{serve, take_record};
 use crate::machine::Machine;
 use crate::requesting::request_for;
-use crate::{Entry, IngressSpec, Reply, Routes, Step};
+use crate::{Entry, Reply, Step};
+use address_routing::{IngressSpec, Routes};
 use proto_wire::Mem;
 use request_reply::{Judged, judge};
 use sf_outside::IngressRecord;

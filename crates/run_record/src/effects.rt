@@ -1,13 +1,14 @@
 //! What steps do to the machine's state.
 ghost use Rattle.std.specs.Prelude.{◌≡◌, ◌^◌, ◌<◌, ℕ, IsSome, OnOk, OnErr, get_or, vec_len};
-ghost use Rattle.run_record.specs.Routing.{splits_in};
+ghost use Rattle.address_routing.specs.Routing.{splits_in};
 ghost use Rattle.run_record.specs.Machine.{picked, served, taken_after, took};
 ghost use Rattle.run_record.specs.StateOf.{state_of};
 
 use crate::machine::Machine;
 use crate::picking::drop_picked;
 use crate::placing::{placed_answers, placed_egress, placed_letters};
-use crate::{Reply, Routes};
+use crate::{Reply, letters_of};
+use address_routing::Routes;
 use proto_wire::Mem;
 use request_reply::InvocationResponse;
 use sf_outside::IngressRecord;
@@ -47,7 +48,7 @@ pub fn take_record(
     ensures ok { OnOk result (state_of machine.new ≡ took routes.now split found.now (state_of machine.old)) }
     ensures err { OnErr result (state_of machine.new ≡ state_of machine.old) }
 {
-    let letters = placed_letters(alloc, routes.letters(alloc, split, found)?)?;
+    let letters = placed_letters(alloc, letters_of(alloc, routes, split, found)?)?;
     reach(&mut machine.taken, split)?;
     let _places = machine.mail.push_all(alloc, letters)?;
     count_one(&mut machine.taken, split);

@@ -7,16 +7,15 @@ mod egress;
 mod entry;
 mod key;
 mod laws;
+mod letters;
 mod machine;
 mod merging;
-mod module;
 mod numbers;
 mod picking;
 mod placing;
 mod queue;
 mod replaying;
 mod requesting;
-mod routes;
 mod shelf;
 mod shelves;
 
@@ -25,9 +24,8 @@ pub use entry::{Entry, Reply, Step};
 pub use laws::{
     each_record_is_taken_once, letters_are_delivered_in_order, records_are_taken_in_order,
 };
+pub use letters::letters_of;
 pub use machine::Machine;
 pub use merging::merge;
-pub use module::{Endpoint, IngressSpec, Module};
 pub use picking::caller_of;
 pub use replaying::{ReplayFault, Replayed, replay};
-pub use routes::Routes;

@@ -5,7 +5,8 @@ ghost use Rattle.run_record.specs.StateOf.{state_of};
 ghost use Rattle.run_record.specs.Replays.{Replays, StepsOver, HasIngressCause, fault_of};
 
 use crate::machine::Machine;
-use crate::{Entry, Routes, Step};
+use crate::{Entry, Step};
+use address_routing::Routes;
 use proto_wire::{List, OutOfMemory};
 use sf_outside::{Fault, Ingress};
 use std::alloc::Global;

@@ -3,9 +3,10 @@ ghost use Rattle.std.specs.Prelude.{◌≡◌, ◌^◌, ◌<◌, IfOk, length};
 ghost use Rattle.run_record.specs.Machine.{request_of, is_within};
 ghost use Rattle.run_record.specs.StateOf.{state_of};
 
+use crate::Reply;
 use crate::machine::Machine;
 use crate::picking::picked;
-use crate::{Endpoint, Reply, Routes};
+use address_routing::{Endpoint, Routes};
 use proto_wire::{List, Mem, TryClone};
 use request_reply::{InvocationBatchRequest, ToFunction, encode_to, size_to};
 use std::alloc::Global;

@@ -18,8 +18,8 @@ use Rattle.request_reply.specs.declared.judging.Judged.{Judged}
 use Rattle.request_reply.specs.declared.judging.Judged.TheVariants.{Accept, Flaw}
 use Rattle.request_reply.specs.Spelling.{to_spelling}
 use Rattle.request_reply.specs.Valid.{verdict}
-use Rattle.run_record.specs.declared.module.Module.{Module}
-use Rattle.run_record.specs.Routing.{url_of}
+use Rattle.address_routing.specs.declared.module.Module.{Module}
+use Rattle.address_routing.specs.Routing.{url_of}
 use Rattle.run_record.specs.Machine.{first_state}
 use Rattle.run_record.specs.Backed.{AreBacked, IsBackedReply}
 use Rattle.run_record.proofs.LawsOfSteps.{AreBacked-push}

@@ -8,7 +8,7 @@ use Rattle.sf_outside.specs.declared.call.Exchange.{Exchange}
 use Rattle.sf_outside.specs.declared.ingress.IngressRecord.{IngressRecord}
 use Rattle.sf_outside.specs.Told.{more, more-nil}
 use Rattle.typed_values.specs.declared.letter.Letter.{Letter}
-use Rattle.run_record.specs.declared.module.Module.{Module}
+use Rattle.address_routing.specs.declared.module.Module.{Module}
 use Rattle.run_record.specs.declared.entry.Entry.{Entry}
 use Rattle.run_record.specs.Egress.{egress_of, egress_text, records_of_step}
 use Rattle.statefun_cli.specs.declared.end.PlainEnd.{PlainEnd}

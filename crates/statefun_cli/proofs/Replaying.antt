@@ -24,10 +24,11 @@ use Rattle.request_reply.specs.declared.judging.Judged.{Judged}
 use Rattle.request_reply.specs.declared.judging.Judged.TheVariants.{Accept, Flaw}
 use Rattle.request_reply.specs.Spelling.{to_spelling, from_value}
 use Rattle.request_reply.specs.Valid.{verdict, judged_answer, judged_egresses, has_egresses_alone, first_unknown, is_empty, flaw_not_built, wire_flaw, too_long}
-use Rattle.run_record.specs.declared.module.Module.{Module}
+use Rattle.address_routing.specs.declared.module.Module.{Module}
 use Rattle.run_record.specs.declared.entry.Entry.{Entry}
 use Rattle.run_record.specs.declared.entry.Reply.{Reply}
-use Rattle.run_record.specs.Routing.{letters_of, endpoint_of}
+use Rattle.address_routing.specs.Routing.{endpoint_of}
+use Rattle.run_record.specs.Letters.{letters_of}
 use Rattle.run_record.specs.Machine.{State, first_state, posted_all, unpicked, request_of, letters_from, served, take_step, batch_step, replayed, took}
 use Rattle.run_record.proofs.LawsOfSteps.{IsTaken, IsServed, take_step-is, batch_step-is, replayed-append, replayed_push_on, some_from_and_then}
 use Rattle.statefun_cli.specs.Turns.{Heard, Work, Status, Going, Cut, Ended, Turned, Fate, Open, TooLate, Told, call_in, fate_of, take_entry, work_read, request_for, start_of, batch_entry, judged_turn, fated_turn, asked_turn, turned, go_on, turns_from, turns_of, no_work, records_heard}

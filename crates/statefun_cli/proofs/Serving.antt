@@ -18,7 +18,7 @@ use Rattle.request_reply.specs.declared.judging.Judged.{Judged}
 use Rattle.request_reply.specs.declared.judging.Judged.TheVariants.{Accept, Flaw}
 use Rattle.request_reply.specs.Spelling.{to_spelling}
 use Rattle.request_reply.specs.Valid.{verdict}
-use Rattle.run_record.specs.declared.module.Module.{Module}
+use Rattle.address_routing.specs.declared.module.Module.{Module}
 use Rattle.run_record.specs.declared.entry.Entry.{Entry}
 use Rattle.statefun_cli.specs.declared.end.PlainEnd.{PlainEnd}
 use Rattle.statefun_cli.specs.declared.end.PlainEnd.TheVariants.{Done, Usage, TurnsSpent, EndpointFailed, IngressFault, LinkFault, SinkFault, OutOfMemory}

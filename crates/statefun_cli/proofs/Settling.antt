@@ -14,7 +14,7 @@ use Rattle.request_reply.specs.declared.answer.InvocationResponse.{InvocationRes
 use Rattle.request_reply.specs.declared.judging.Judged.{Judged}
 use Rattle.request_reply.specs.declared.judging.Judged.TheVariants.{Accept, Flaw}
 use Rattle.request_reply.specs.Valid.{verdict}
-use Rattle.run_record.specs.declared.module.Module.{Module}
+use Rattle.address_routing.specs.declared.module.Module.{Module}
 use Rattle.run_record.specs.declared.entry.Entry.{Entry}
 use Rattle.run_record.specs.Egress.{egress_of, egress_text, egress_line, egress_record, records_of_step, records_judged}
 use Rattle.statefun_cli.specs.declared.end.PlainEnd.{PlainEnd}

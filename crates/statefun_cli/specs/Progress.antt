@@ -5,7 +5,7 @@ use Rattle.sf_outside.specs.declared.call.Answered.TheVariants.{Lost as NoAnswer
 use Rattle.typed_values.specs.declared.letter.Letter.{Letter}
 use Rattle.request_reply.specs.declared.flaw.Reason.{Reason}
 use Rattle.request_reply.specs.declared.flaw.Reason.TheVariants.{Lost}
-use Rattle.run_record.specs.declared.module.Module.{Module}
+use Rattle.address_routing.specs.declared.module.Module.{Module}
 use Rattle.run_record.specs.declared.entry.Entry.{Entry}
 use Rattle.run_record.specs.Egress.{egress_of, egress_text}
 use Rattle.statefun_cli.specs.declared.end.PlainEnd.{PlainEnd}

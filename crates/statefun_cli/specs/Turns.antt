@@ -18,10 +18,11 @@ use Rattle.request_reply.specs.declared.judging.Judged.{Judged}
 use Rattle.request_reply.specs.declared.judging.Judged.TheVariants.{Accept, Flaw}
 use Rattle.request_reply.specs.Spelling.{to_spelling}
 use Rattle.request_reply.specs.Valid.{verdict}
-use Rattle.run_record.specs.declared.module.Module.{Module}
+use Rattle.address_routing.specs.declared.module.Module.{Module}
 use Rattle.run_record.specs.declared.entry.Entry.{Entry}
 use Rattle.run_record.specs.declared.entry.Step.TheVariants.{Take, Batch}
-use Rattle.run_record.specs.Routing.{letters_of, url_of}
+use Rattle.address_routing.specs.Routing.{url_of}
+use Rattle.run_record.specs.Letters.{letters_of}
 use Rattle.request_reply.specs.Letters.{invocation_of}
 use Rattle.run_record.specs.Machine.{batch_of}
 use Rattle.statefun_cli.specs.declared.end.PlainEnd.{PlainEnd}

@@ -3,14 +3,15 @@ ghost use Rattle.std.specs.Prelude.{◌≡◌, ◌<◌, ◌≤◌, ◌+◌, ◌^
 ghost use Rattle.typed_values.specs.declared.letter.Letter.{Letter};
 ghost use Rattle.sf_outside.specs.declared.call.LinkEvent.{LinkEvent};
 ghost use Rattle.request_reply.specs.declared.judging.Judged.TheVariants.{Accept};
-ghost use Rattle.run_record.specs.Routing.{splits_in};
+ghost use Rattle.address_routing.specs.Routing.{splits_in};
 ghost use Rattle.run_record.specs.Egress.{egress_record, egress_text};
 ghost use Rattle.statefun_cli.specs.Turns.{call_in, batch_of_picks};
 
 use crate::PlainEnd;
+use address_routing::Routes;
 use proto_wire::{Bytes, List, Mem};
 use request_reply::{EgressMessage, InvocationResponse, Judged, Reason, judge};
-use run_record::{Entry, Reply, Routes, Step, put_answer_text};
+use run_record::{Entry, Reply, Step, letters_of, put_answer_text};
 use sf_outside::{Answered, Call, IngressRecord};
 use std::alloc::Global;
 use std::collections::VecDeque;
@@ -76,7 +77,7 @@ impl Progress {
         let Some(record) = read else {
             return Ok(());
         };
-        let mut letters = VecDeque::from(routes.letters(alloc, 0, record)?.into_vec());
+        let mut letters = VecDeque::from(letters_of(alloc, routes, 0, record)?.into_vec());
         self.waiting.append(&mut letters)?;
         self.entries.push(Entry {
             leg: turn,

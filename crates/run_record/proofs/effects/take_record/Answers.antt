@@ -6,7 +6,7 @@ use Rattle.run_record.specs.declared.machine.Machine.{Machine}
 use Rattle.run_record.specs.declared.shelves.Placed.{Placed}
 use Rattle.run_record.specs.Keys.{address_order, sender_order}
 use Rattle.run_record.specs.Queues.{HasBehind, list_in}
-use Rattle.run_record.specs.Routing.{letters_of}
+use Rattle.run_record.specs.Letters.{letters_of}
 use Rattle.run_record.specs.Machine.{taken_after}
 use Rattle.run_record.specs.StateOf.{mail_of, placed_letter}
 use Rattle.std.proofs.Common.{refl}

@@ -1,5 +1,5 @@
-use Rattle.run_record.proofs.Templates.{filled-around, filled-none, IsUtf8-back, parts_more}
-use Rattle.run_record.proofs.routes.filled.Goals as goal
+use Rattle.address_routing.proofs.Templates.{filled-around, filled-none, IsUtf8-back, parts_more}
+use Rattle.address_routing.proofs.routes.filled.Goals as goal
 
 pub parts-preserved : goal.parts-preserved
 parts-preserved c = record {

@@ -1,6 +1,6 @@
 use Rattle.std.proofs.Common.{◌≡◌, ◌<◌, drop}
-use Rattle.run_record.specs.Routing.{splits_in, ingress_in}
-use Rattle.run_record.proofs.routes.ingress_at.Given as goal
+use Rattle.address_routing.specs.Routing.{splits_in, ingress_in}
+use Rattle.address_routing.proofs.routes.ingress_at.Given as goal
 
 -- what is left of the split's number points into the ingresses that are left
 abbrev pub invariant-loop-ingress : goal.invariant-loop-ingress

@@ -7,7 +7,7 @@ use Rattle.std.specs.Str.Pattern.{LacksTextAt, FindsText, SplitsAroundMatch}
 use Rattle.std.proofs.lemmas.Grind.{common_steps}
 use Rattle.std.proofs.lemmas.Str.{IsUtf8-drop}
 use Rattle.std.proofs.lemmas.Str.Pattern.{starts_text}
-use Rattle.run_record.specs.Routing.{filled_from, filled}
+use Rattle.address_routing.specs.Routing.{filled_from, filled}
 
 abbrev pub slot : List ℕ
 slot = codes "{function.name}"

@@ -1,14 +1,13 @@
 //! Where a job's records and requests go.
-ghost use Rattle.std.specs.Prelude.{◌≡◌, ◌<◌, ◌≤◌, IsTrue, IfOk, Some, find, map};
+ghost use Rattle.std.specs.Prelude.{◌≡◌, ◌<◌, ◌≤◌, IsTrue, IfOk, Some, find};
 ghost use Rattle.std.specs.Option.{option_copied};
-ghost use Rattle.run_record.specs.Routing.{is_routable, is_exact, is_wide, endpoint_of, splits_in, ingress_in, targets_of, filled, url_of, letter_of, letters_of};
+ghost use Rattle.address_routing.specs.Routing.{is_routable, is_exact, is_wide, endpoint_of, splits_in, ingress_in, ingress_of, targets_of, filled, url_of};
 
 use crate::{Endpoint, IngressSpec, Module};
-use proto_wire::{List, Mem, Text, TryClone};
-use sf_outside::IngressRecord;
+use proto_wire::{List, Mem, Text};
 use std::alloc::Global;
 use std::marker::Model;
-use typed_values::{Address, Letter, Sender, TypeName, TypedValue};
+use typed_values::TypeName;
 
 /// The routes of a job. Contracts see its module, which is one that can be routed.
 #[derive(Drop)]
@@ -17,12 +16,12 @@ pub struct Routes {
 }
 
 impl Model for Routes {
-    ghost use Rattle.run_record.specs.declared.module.Module.{Module};
+    ghost use Rattle.address_routing.specs.declared.module.Module.{Module};
 
     ghost Value = { Module };
 
     ghost use Rattle.std.specs.Prelude.{IsTrue};
-    ghost use Rattle.run_record.specs.Routing.{is_routable};
+    ghost use Rattle.address_routing.specs.Routing.{is_routable};
 
     ghost view = { λ r. r.module };
 
@@ -77,6 +76,15 @@ impl Routes {
         }
     }
 
+    /// The ingress to which a split belongs. The split is one of the module's.
+    #[tactic(auto, unfolding(crate::specs::Routing::ingress_of))]
+    pub fn ingress_of(&self, split: u32) -> &IngressSpec
+        requires { split < splits_in self.now.ingresses }
+        ensures { Some result.now ≡ ingress_of self.now split }
+    {
+        ingress_at(self.module.ingresses.as_slice(), split)
+    }
+
     /// The types to which the records of a split go. The split is one of the module's.
     #[tactic(auto, unfolding(crate::specs::Routing::targets_of, crate::specs::Routing::ingress_of))]
     pub fn targets_of(&self, split: u32) -> &List<TypeName>
@@ -84,22 +92,6 @@ impl Routes {
         ensures { result.now ≡ targets_of self.now split }
     {
         &ingress_at(self.module.ingresses.as_slice(), split).targets
-    }
-
-    /// A record of a split as letters, one for each target in order. The split is one of the module's.
-    #[tactic(auto, unfolding(crate::specs::Routing::letters_of, crate::specs::Routing::ingress_of))]
-    pub fn letters(&self, alloc: Global, split: u32, taken: &IngressRecord) -> Mem<List<Letter>>
-        requires { split < splits_in self.now.ingresses }
-        ensures { IfOk result (λ letters. letters ≡ letters_of self.now split taken.now) }
-    {
-        let ingress = ingress_at(self.module.ingresses.as_slice(), split);
-        letters_to(
-            alloc,
-            split,
-            &ingress.value_type,
-            taken,
-            ingress.targets.as_slice(),
-        )
     }
 }
 
@@ -116,48 +108,6 @@ fn ingress_at<'a>(ingresses: &'a [IngressSpec], split: u32) -> &'a IngressSpec
         left -= ingress.splits;
     }
     unreachable!()
-}
-
-/// A record as the letter to one target.
-fn letter_to(
-    alloc: Global,
-    split: u32,
-    value_type: &Text,
-    taken: &IngressRecord,
-    target: &TypeName,
-) -> Mem<Letter>
-    ensures { IfOk result (λ letter. letter ≡ letter_of split value_type.now taken.now target.now) }
-{
-    let address = Address {
-        kind: target.try_clone(alloc)?,
-        id: taken.key.try_clone(alloc)?,
-    };
-    let argument = TypedValue {
-        typename: value_type.try_clone(alloc)?,
-        has_value: true,
-        value: taken.value.try_clone(alloc)?,
-    };
-    Ok(Letter {
-        sender: Sender::Split(split),
-        target: address,
-        argument,
-    })
-}
-
-fn letters_to(
-    alloc: Global,
-    split: u32,
-    value_type: &Text,
-    taken: &IngressRecord,
-    targets: &[TypeName],
-) -> Mem<List<Letter>>
-    ensures { IfOk result (λ letters. letters ≡ map (letter_of split value_type.now taken.now) targets.now) }
-{
-    let mut letters = List::new(alloc);
-    for target in targets {
-        letters.push(letter_to(alloc, split, value_type, taken, target)?)?;
-    }
-    Ok(letters)
 }
 
 /// A template with each `{function.name}` in it replaced by the name.

@@ -1,7 +1,7 @@
 use Rattle.std.proofs.Common.{◌≡◌, ◌++◌, length}
 use Rattle.std.specs.Str.{IsUtf8}
-use Rattle.run_record.specs.Routing.{filled}
-use Rattle.run_record.proofs.routes.filled.Given as goal
+use Rattle.address_routing.specs.Routing.{filled}
+use Rattle.address_routing.proofs.routes.filled.Given as goal
 
 -- what is made, and what the rest gives, are the whole
 abbrev pub invariant-parts : goal.invariant-parts

@@ -1,6 +1,6 @@
 use Rattle.std.proofs.Common.{◌≡◌, take, map}
-use Rattle.run_record.specs.Routing.{letter_of}
-use Rattle.run_record.proofs.routes.letters_to.Given as goal
+use Rattle.run_record.specs.Letters.{letter_of}
+use Rattle.run_record.proofs.letters.letters_to.Given as goal
 
 -- the letters to the targets so far
 abbrev pub invariant-loop-target : goal.invariant-loop-target

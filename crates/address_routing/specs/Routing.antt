@@ -4,14 +4,11 @@ use Rattle.std.specs.Prelude.{Option, Some, None, is_some, map, find}
 use Rattle.std.specs.Option.{option_map, option_map_or}
 use Rattle.std.specs.List.{starts_with, list_any, list_all}
 use Rattle.typed_values.specs.declared.name.TypeName.{TypeName}
-use Rattle.typed_values.specs.declared.letter.Sender.TheVariants.{Split}
-use Rattle.typed_values.specs.declared.letter.Letter.{Letter}
 use Rattle.typed_values.specs.Sameness.{same_bytes, same_name}
 use Rattle.typed_values.specs.Pattern.{same_pattern}
-use Rattle.sf_outside.specs.declared.ingress.IngressRecord.{IngressRecord}
-use Rattle.run_record.specs.declared.module.Module.{Module}
-use Rattle.run_record.specs.declared.module.Endpoint.{Endpoint}
-use Rattle.run_record.specs.declared.module.IngressSpec.{IngressSpec}
+use Rattle.address_routing.specs.declared.module.Module.{Module}
+use Rattle.address_routing.specs.declared.module.Endpoint.{Endpoint}
+use Rattle.address_routing.specs.declared.module.IngressSpec.{IngressSpec}
 
 -- the number of splits of some ingresses
 abbrev pub splits_in : List IngressSpec → ℕ
@@ -71,7 +68,7 @@ is_routable m =
     && nat_lt 0 (splits_in m.ingresses)
     && nat_le (splits_in m.ingresses) 32
 
--- ---- URLs and letters
+-- ---- URLs
 
 -- a template with each `{function.name}` in it replaced by the name; so many bytes in front are passed over
 abbrev pub filled_from : List ℕ → ℕ → List ℕ → List ℕ
@@ -88,15 +85,3 @@ filled name template = filled_from name 0 template
 -- the URL at which a type's functions are called
 unfoldable pub url_of : Module → TypeName → Option (List ℕ)
 url_of m kind = option_map (λ endpoint. filled kind.name endpoint.template) (endpoint_of m kind)
-
--- a record as the letter to one target: the address' id is the record's key
-abbrev pub letter_of : ℕ → List ℕ → IngressRecord → TypeName → Letter
-letter_of split value_type taken target = record {
-  sender = Split split;
-  target = record { kind = target; id = taken.key };
-  argument = record { typename = value_type; has_value = true; value = taken.value };
-}
-
--- the letters that a split's record becomes, one for each target in order
-unfoldable pub letters_of : Module → ℕ → IngressRecord → List Letter
-letters_of m split taken = option_map_or (λ ingress. map (letter_of split ingress.value_type taken) ingress.targets) (ingress_of m split) []

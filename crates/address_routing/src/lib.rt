@@ -1,0 +1,8 @@
+//! Where a job's records and requests go.
+#![tactic(auto)]
+
+mod module;
+mod routes;
+
+pub use module::{Endpoint, IngressSpec, Module};
+pub use routes::Routes;
