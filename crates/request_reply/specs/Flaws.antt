@@ -121,14 +121,22 @@ abbrev pub natural : ℤ → ℕ
 natural (pos n) = n
 natural (negsuc n) = 0
 
+abbrev pub mode_in : Option ExpirationSpec → Expiry
+mode_in None = Never
+mode_in (Some expiry) = mode_of expiry.mode
+
+abbrev pub millis_in : Option ExpirationSpec → ℕ
+millis_in None = 0
+millis_in (Some expiry) = natural expiry.expire_after_millis
+
 -- the cell that a missing value declares
 abbrev pub declared : PersistedValueSpec → CellSpec
-declared missing = of_expiry missing.expiration_spec
-  where
-    of_expiry : Option ExpirationSpec → CellSpec
-    of_expiry None = record { name = missing.state_name; typename = missing.type_typename; mode = Never; millis = 0 }
-    of_expiry (Some expiry) =
-        record { name = missing.state_name; typename = missing.type_typename; mode = mode_of expiry.mode; millis = natural expiry.expire_after_millis }
+declared missing = record {
+  name = missing.state_name;
+  typename = missing.type_typename;
+  mode = mode_in missing.expiration_spec;
+  millis = millis_in missing.expiration_spec;
+}
 
 -- a name that is known has to have the same type; an address has at most 64 cells
 abbrev pub name_flaw : ℕ → List ℕ → Option (List ℕ) → Option FlawKind

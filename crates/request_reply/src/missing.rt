@@ -1,9 +1,8 @@
 //! The cells that missing values declare.
-ghost use Rattle.std.specs.Prelude.{◌≡◌, ◌+◌, ◌++◌, is_none, ◌<◌, ◌^◌, [], ◌∷◌, length, map, IfOk, MatchResult, None, Some};
-ghost use Rattle.std.specs.Option.{option_copied, option_map};
-ghost use Rattle.typed_values.specs.declared.cell.CellSpec.{CellSpec as OneSpec};
-ghost use Rattle.typed_values.specs.Cells.{empty, found};
-ghost use Rattle.request_reply.specs.Flaws.{added, natural, mode_of, declared, is_expiry, name_flaw, missing_flaw, type_of, incomplete_flaw};
+ghost use Rattle.std.specs.Prelude.{◌≡◌, ◌+◌, ◌++◌, is_none, if◌then◌else◌, ◌<◌, ◌^◌, [], ◌∷◌, length, map, IfOk, MatchResult, None, Some};
+ghost use Rattle.std.specs.Option.{option_copied};
+ghost use Rattle.typed_values.specs.Cells.{empty};
+ghost use Rattle.request_reply.specs.Flaws.{added, mode_in, millis_in, declared, is_expiry, missing_flaw, type_of, none_new, flaw_at, incomplete_flaw};
 
 use crate::{ExpirationSpec, Flaw, FlawKind, Known, PersistedValueSpec};
 use proto_wire::{List, Mem, Text};
@@ -26,38 +25,49 @@ fn is_expiry(expiry: &Option<ExpirationSpec>) -> bool
     }
 }
 
-fn mode_of(mode: i32) -> Expiry
-    ensures { result ≡ mode_of mode }
+/// Which of its uses a value's time counts from.
+fn mode_in(expiry: &Option<ExpirationSpec>) -> Expiry
+    ensures { result ≡ mode_in expiry.now }
 {
-    if mode > 1 {
-        Expiry::AfterInvoke
-    } else if mode > 0 {
-        Expiry::AfterWrite
-    } else {
-        Expiry::Never
+    match expiry {
+        Some(expiry) => {
+            if expiry.mode > 1 {
+                Expiry::AfterInvoke
+            } else if expiry.mode > 0 {
+                Expiry::AfterWrite
+            } else {
+                Expiry::Never
+            }
+        }
+        None => Expiry::Never,
     }
 }
 
-/// A number, or 0 in place of one below it.
-fn natural(millis: i64) -> u64
-    ensures { result ≡ natural millis }
+/// How long a value lasts. A number below 0 is kept as 0.
+fn millis_in(expiry: &Option<ExpirationSpec>) -> u64
+    ensures { result ≡ millis_in expiry.now }
 {
-    if millis < 0 { 0 } else { millis as u64 }
+    match expiry {
+        Some(expiry) => {
+            if expiry.expire_after_millis < 0 {
+                0
+            } else {
+                expiry.expire_after_millis as u64
+            }
+        }
+        None => 0,
+    }
 }
 
 /// The cell that a missing value declares.
 fn declared(missing: PersistedValueSpec) -> CellSpec
     ensures { result ≡ declared missing }
 {
-    let (mode, millis) = match missing.expiration_spec {
-        Some(expiry) => (mode_of(expiry.mode), natural(expiry.expire_after_millis)),
-        None => (Expiry::Never, 0),
-    };
     CellSpec {
+        mode: mode_in(&missing.expiration_spec),
+        millis: millis_in(&missing.expiration_spec),
         name: missing.state_name,
         typename: missing.type_typename,
-        mode,
-        millis,
     }
 }
 
@@ -73,24 +83,30 @@ fn type_in<'a>(specs: &'a [CellSpec], name: &Text) -> Option<&'a Text>
     None
 }
 
-/// Whether the name of a missing value is new, beside the cells that are known and those of some declarations.
+/// The type under which a name is known, beside the cells that are known and those of some declarations.
+fn type_of<'a, K: Known>(known: &'a K, new: &'a [CellSpec], name: &Text) -> Option<&'a Text>
+    ensures { option_copied result ≡ type_of name.now ((K.setting known.now).cells ++ map empty new.now) }
+{
+    match known.type_of(name) {
+        Some(typename) => Some(typename),
+        None => type_in(new, name),
+    }
+}
+
+/// Whether the name of a missing value is new, beside such cells.
 fn is_new<K: Known>(
     value: &PersistedValueSpec,
     new: &[CellSpec],
     known: &K,
 ) -> Result<bool, FlawKind>
     ensures { let cells = (K.setting known.now).cells ++ map empty new.now in MatchResult result
-        (λ is_new. (missing_flaw cells value.now ≡ None) × (is_new ≡ is_none (found value.now.state_name cells)))
+        (λ is_new. (missing_flaw cells value.now ≡ None) × (is_new ≡ is_none (type_of value.now.state_name cells)))
         (λ kind. missing_flaw cells value.now ≡ Some kind) }
 {
     if !is_expiry(&value.expiration_spec) {
         return Err(FlawKind::BadExpiry);
     }
-    let typename = match known.type_of(&value.state_name) {
-        Some(typename) => Some(typename),
-        None => type_in(new, &value.state_name),
-    };
-    match typename {
+    match type_of(known, new, &value.state_name) {
         Some(typename) => {
             if *typename == value.type_typename {
                 Ok(false)
@@ -108,6 +124,26 @@ fn is_new<K: Known>(
     }
 }
 
+/// Takes in a missing value: its cell goes behind the declarations where its name is new. An `Err` inside is its flaw.
+fn take_in<K: Known>(
+    new: &mut List<CellSpec>,
+    value: PersistedValueSpec,
+    known: &K,
+) -> Mem<Result<(), FlawKind>>
+    ensures { let cells = (K.setting known.now).cells ++ map empty new.old in IfOk result (λ made. MatchResult made
+        (λ _. (missing_flaw cells value ≡ None) × (new.new ≡ (if is_none (type_of value.state_name cells) then new.old ++ declared value ∷ [] else new.old)))
+        (λ kind. missing_flaw cells value ≡ Some kind)) }
+{
+    match is_new(&value, new.as_slice(), known) {
+        Ok(true) => {
+            new.push(declared(value))?;
+            Ok(Ok(()))
+        }
+        Ok(false) => Ok(Ok(())),
+        Err(kind) => Ok(Err(kind)),
+    }
+}
+
 /// The cells that missing values add to those that are known, or the first flaw.
 pub(crate) fn declared_by<K: Known>(
     alloc: Global,
@@ -122,21 +158,27 @@ pub(crate) fn declared_by<K: Known>(
     let mut new = List::new(alloc);
     let mut index = 0;
     for value in values.into_vec() {
-        match is_new(&value, new.as_slice(), known) {
-            Ok(true) => new.push(declared(value))?,
-            Ok(false) => {}
-            Err(kind) => return Ok(Err(flaw_at(kind, index))),
+        if let Err(kind) = take_in(&mut new, value, known)? {
+            return Ok(Err(flaw_at(kind, index)));
         }
         index += 1;
     }
+    Ok(if_some(new))
+}
+
+/// At least one cell is to be new.
+fn if_some(new: List<CellSpec>) -> Result<List<CellSpec>, Flaw>
+    ensures { MatchResult result (λ specs. (none_new new ≡ None) × (specs ≡ new)) (λ flaw. none_new new ≡ Some flaw) }
+{
     if new.is_empty() {
-        return Ok(Err(flaw_at(FlawKind::NoNewName, 0)));
+        Err(flaw_at(FlawKind::NoNewName, 0))
+    } else {
+        Ok(new)
     }
-    Ok(Ok(new))
 }
 
 fn flaw_at(kind: FlawKind, index: u32) -> Flaw
-    ensures { result ≡ record { kind = kind; index = index; wire = None } }
+    ensures { result ≡ flaw_at kind index }
 {
     Flaw {
         kind,
