@@ -1,1 +1,2 @@
 mod Templates
+mod Naming

@@ -42,6 +42,10 @@ or_else None other = other
 unfoldable pub endpoint_of : Module → TypeName → Option Endpoint
 endpoint_of m kind = or_else (find (is_exact kind) m.endpoints) (find (is_wide kind) m.endpoints)
 
+-- whether there is an egress of that name
+abbrev pub knows_egress : Module → TypeName → Bool
+knows_egress m name = list_any (same_name name) m.egresses
+
 -- ---- modules whose records have a way to go
 
 -- no two items of a list are the same

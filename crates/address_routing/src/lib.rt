@@ -1,6 +1,7 @@
 //! Where a job's records and requests go.
 #![tactic(auto)]
 
+mod maps;
 mod module;
 mod routes;
 

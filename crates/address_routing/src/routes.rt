@@ -1,18 +1,27 @@
 //! Where a job's records and requests go.
-ghost use Rattle.std.specs.Prelude.{◌≡◌, ◌<◌, ◌≤◌, IsTrue, IfOk, Some, find};
+ghost use Rattle.std.specs.Prelude.{◌≡◌, ◌<◌, ◌≤◌, IsTrue, IfOk, Some};
 ghost use Rattle.std.specs.Option.{option_copied};
-ghost use Rattle.address_routing.specs.Routing.{is_routable, is_exact, is_wide, endpoint_of, splits_in, ingress_in, ingress_of, targets_of, filled, url_of};
+ghost use Rattle.address_routing.specs.Routing.{is_routable, endpoint_of, knows_egress, splits_in, ingress_in, ingress_of, targets_of, filled, url_of};
 
+use crate::maps::{endpoint_at, exact_places, names_in, wide_places};
 use crate::{Endpoint, IngressSpec, Module};
 use proto_wire::{List, Mem, Text};
 use std::alloc::Global;
+use std::collections::{BTreeMap, BTreeSet};
 use std::marker::Model;
 use typed_values::TypeName;
 
 /// The routes of a job. Contracts see its module, which is one that can be routed.
+///
+/// Looking up an endpoint or an egress takes the logarithm of how many there are.
 #[derive(Drop)]
 pub struct Routes {
     module: Module,
+    /// Where in the list an endpoint stands, by the name that it is for.
+    exact: BTreeMap<TypeName, usize>,
+    /// The same, by the namespace for all names of which it is.
+    wide: BTreeMap<Text, usize>,
+    egresses: BTreeSet<TypeName>,
 }
 
 impl Model for Routes {
@@ -22,20 +31,29 @@ impl Model for Routes {
 
     ghost use Rattle.std.specs.Prelude.{IsTrue};
     ghost use Rattle.address_routing.specs.Routing.{is_routable};
+    ghost use Rattle.address_routing.specs.Kept.{AreMapsOf};
 
     ghost view = { λ r. r.module };
 
-    ghost invariant = { λ r. IsTrue (is_routable r.module) };
+    ghost invariant = { λ r. IsTrue (is_routable r.module) × AreMapsOf r.module r.exact r.wide r.egresses };
 }
 
 impl Routes {
     /// The routes of a module, which is moved in. Its patterns, ingress ids and egress ids stand once each, its limits are
     /// at least 1, each target has an endpoint, and there are 1 to 32 splits in all.
-    pub fn new(_alloc: Global, job: Module) -> Mem<Routes>
+    pub fn new(alloc: Global, job: Module) -> Mem<Routes>
         requires { IsTrue (is_routable job) }
         ensures { IfOk result (λ routes. routes ≡ job) }
     {
-        Ok(Routes { module: job })
+        let exact = exact_places(alloc, job.endpoints.as_slice())?;
+        let wide = wide_places(alloc, job.endpoints.as_slice())?;
+        let egresses = names_in(alloc, job.egresses.as_slice())?;
+        Ok(Routes {
+            module: job,
+            exact,
+            wide,
+            egresses,
+        })
     }
 
     /// The module.
@@ -54,10 +72,17 @@ impl Routes {
         ensures { option_copied result ≡ endpoint_of self.now kind.now }
     {
         let endpoints = self.module.endpoints.as_slice();
-        match exact_endpoint(endpoints, kind) {
+        match endpoint_at(endpoints, self.exact.get(kind)) {
             Some(endpoint) => Some(endpoint),
-            None => wide_endpoint(endpoints, kind),
+            None => endpoint_at(endpoints, self.wide.get(&kind.namespace)),
         }
+    }
+
+    /// Whether the module has an egress of that name.
+    pub fn knows_egress(&self, name: &TypeName) -> bool
+        ensures { result ≡ knows_egress self.now name.now }
+    {
+        self.egresses.contains(name)
     }
 
     /// The URL at which functions of a type are called: the template of its endpoint, with each `{function.name}`
@@ -123,36 +148,4 @@ fn filled(alloc: Global, template: &str, name: &str) -> Mem<Text>
     }
     made.append(rest)?;
     Ok(made)
-}
-
-/// Whether an endpoint is for this very name.
-fn is_exact(kind: &TypeName, endpoint: &Endpoint) -> bool
-    ensures { result ≡ is_exact kind.now endpoint.now }
-{
-    match &endpoint.pattern.name {
-        Some(name) => *name == kind.name && endpoint.pattern.namespace == kind.namespace,
-        None => false,
-    }
-}
-
-/// Whether an endpoint is for all names of the name's namespace.
-fn is_wide(kind: &TypeName, endpoint: &Endpoint) -> bool
-    ensures { result ≡ is_wide kind.now endpoint.now }
-{
-    match &endpoint.pattern.name {
-        Some(_) => false,
-        None => endpoint.pattern.namespace == kind.namespace,
-    }
-}
-
-fn exact_endpoint<'a>(endpoints: &'a [Endpoint], kind: &TypeName) -> Option<&'a Endpoint>
-    ensures { option_copied result ≡ find (is_exact kind.now) endpoints.now }
-{
-    endpoints.iter().find(|endpoint| is_exact(kind, endpoint))
-}
-
-fn wide_endpoint<'a>(endpoints: &'a [Endpoint], kind: &TypeName) -> Option<&'a Endpoint>
-    ensures { option_copied result ≡ find (is_wide kind.now) endpoints.now }
-{
-    endpoints.iter().find(|endpoint| is_wide(kind, endpoint))
 }
