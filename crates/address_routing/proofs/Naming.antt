@@ -19,8 +19,9 @@ use Rattle.typed_values.specs.Sameness.{same_name, same_bytes}
 use Rattle.typed_values.proofs.Sameness.{same_name-Decides}
 use Rattle.typed_values.proofs.Orders.{exact_names}
 use Rattle.address_routing.specs.declared.module.Endpoint.{Endpoint}
-use Rattle.address_routing.specs.Routing.{is_exact, is_wide}
-use Rattle.address_routing.specs.Kept.{name_order, text_order, endpoint_at}
+use Rattle.address_routing.specs.Routing.{is_exact, is_wide, is_called}
+use Rattle.address_routing.specs.Kept.{name_order, text_order, in_set, endpoint_at}
+use Rattle.std.specs.BTreeSet.{BTreeSet, contains}
 
 names_total : IsTotalOrder name_order
 names_total = then_total (on_total (λ (n : TypeName). n.namespace) nat_list_cmp_total) (on_total (λ (n : TypeName). n.name) nat_list_cmp_total)
@@ -73,25 +74,50 @@ noted_more test endpoints place endpoint before after inside here rest now =
     go true e = slice_get_within endpoints place endpoint inside ∙ ap Some here
     go false e = rest
 
--- the name behind those that are in the set
-pub any_more : (names : List TypeName) (place : ℕ) (item key name : TypeName) (before after : Bool) →
-    place < length names → get_or names place item ≡ item → key ≡ item →
-    before ≡ list_any (same_name name) (take place names) →
-    after ≡ cond (is_eq (name_order key name)) true before →
-    after ≡ list_any (same_name name) (take (place + 1) names)
-any_more names place item key name before after inside here is rest now =
-    now ∙ (λ i. cond (test i) true (rest i)) ∙ sym (or_comm (same_name name item) (list_any (same_name name) (take place names)))
-    ∙ sym (ap (list_any (same_name name)) (take_more names place item inside ∙ ap (λ x. take place names ++ x ∷ []) here) ∙ list_any-append (same_name name) (take place names) (item ∷ []) ∙ ap (λ b. list_any (same_name name) (take place names) || b) (or-false (same_name name item)))
+-- the name behind those that are noted
+pub any_more : (names : List TypeName) (place : ℕ) (item : TypeName) (namespace name : List ℕ) (before after : Bool) →
+    place < length names → get_or names place item ≡ item →
+    before ≡ list_any (is_called namespace name) (take place names) →
+    after ≡ cond (is_called namespace name item) true before →
+    after ≡ list_any (is_called namespace name) (take (place + 1) names)
+any_more names place item namespace name before after inside here rest now =
+    now ∙ ap (λ (b : Bool). cond (is_called namespace name item) true b) rest ∙ or_comm (is_called namespace name item) (list_any (is_called namespace name) (take place names))
+    ∙ sym (ap (list_any (is_called namespace name)) (take_more names place item inside ∙ ap (λ x. take place names ++ x ∷ []) here) ∙ list_any-append (is_called namespace name) (take place names) (item ∷ []) ∙ ap (λ b. list_any (is_called namespace name) (take place names) || b) (or-false (is_called namespace name item)))
   where
-    test : is_eq (name_order key name) ≡ same_name name item
-    test = name_test key name ∙ ap (same_name name) is
-
     or-false : (b : Bool) → (b || false) ≡ b
     or-false false = refl
     or-false true = refl
 
-    or_comm : (a b : Bool) → (b || a) ≡ cond a true b
+    or_comm : (a b : Bool) → cond a true b ≡ (b || a)
     or_comm false false = refl
     or_comm false true = refl
     or_comm true false = refl
     or_comm true true = refl
+
+-- ---- a name more in its namespace
+
+text_tells : (key text : List ℕ) → is_eq (text_order key text) ≡ same_bytes key text
+text_tells key text = same_from_decides (is_eq (text_order key text)) (same_bytes key text) (tested text_order nat_list_cmp_total exact_bytes key text) (bytes_decides key text)
+
+-- the set of the name's namespace has one name more, and all others stay
+pub name_more : (egress : TypeName) (namespace name space key : List ℕ) (old new : Option (BTreeSet (List ℕ))) (names set : BTreeSet (List ℕ)) →
+    space ≡ egress.namespace → key ≡ egress.name →
+    contains text_order set name ≡ cond (is_eq (text_order key name)) true (contains text_order names name) →
+    (egress.namespace ≡ namespace → contains text_order names name ≡ in_set name old) →
+    new ≡ cond (is_eq (text_order space namespace)) (Some set) (cond (same_bytes namespace egress.namespace) None old) →
+    in_set name new ≡ cond (is_called namespace name egress) true (in_set name old)
+name_more egress namespace name space key old new names set spaced keyed holds taken now =
+    ap (in_set name) (now ∙ ap (λ (b : Bool). cond b (Some set) (cond (same_bytes namespace egress.namespace) None old)) (text_tells space namespace ∙ ap (λ s. same_bytes s namespace) spaced))
+    ∙ by_space (same_bytes egress.namespace namespace) refl (same_bytes namespace egress.namespace) refl
+  where
+    here : egress.namespace ≡ namespace → contains text_order set name ≡ cond (same_bytes egress.name name) true (in_set name old)
+    here e = holds ∙ (λ i. cond (test i) true (taken e i))
+      where
+        test : is_eq (text_order key name) ≡ same_bytes egress.name name
+        test = text_tells key name ∙ ap (λ k. same_bytes k name) keyed
+
+    by_space : (b : Bool) → same_bytes egress.namespace namespace ≡ b → (d : Bool) → same_bytes namespace egress.namespace ≡ d
+        → in_set name (cond b (Some set) (cond d None old)) ≡ cond (b && same_bytes egress.name name) true (in_set name old)
+    by_space true e d f = here ((bytes_decides egress.namespace namespace).0 e)
+    by_space false e false f = refl
+    by_space false e true f = absurd (let g : same_bytes egress.namespace namespace ≡ true = (bytes_decides egress.namespace namespace).1 (sym ((bytes_decides namespace egress.namespace).0 f)) in cc)

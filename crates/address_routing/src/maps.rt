@@ -1,13 +1,13 @@
 //! Maps by name, made of lists.
-ghost use Rattle.std.specs.Prelude.{◌≡◌, IfOk, OnOk, Some, find, if◌then◌else◌};
+ghost use Rattle.std.specs.Prelude.{◌≡◌, ℕ, List, true, IfOk, OnOk, None, Some, find, if◌then◌else◌};
 ghost use Rattle.std.specs.List.{list_any};
 ghost use Rattle.std.specs.Option.{option_copied};
 ghost use Rattle.std.specs.BTreeMap.{get};
-ghost use Rattle.std.specs.BTreeSet.{contains};
 ghost use Rattle.typed_values.specs.declared.name.TypeName.{TypeName};
-ghost use Rattle.typed_values.specs.Sameness.{same_name};
-ghost use Rattle.address_routing.specs.Routing.{is_exact, is_wide};
-ghost use Rattle.address_routing.specs.Kept.{name_order, text_order, endpoint_at};
+ghost use Rattle.std.specs.BTreeSet.{contains};
+ghost use Rattle.typed_values.specs.Sameness.{same_bytes};
+ghost use Rattle.address_routing.specs.Routing.{is_exact, is_wide, is_called};
+ghost use Rattle.address_routing.specs.Kept.{name_order, text_order, has_name, endpoint_at};
 
 use crate::Endpoint;
 use proto_wire::{Mem, Text, TryClone};
@@ -44,15 +44,48 @@ pub(crate) fn wide_places(alloc: Global, endpoints: &[Endpoint]) -> Mem<BTreeMap
     Ok(places)
 }
 
-/// The names of a list.
-pub(crate) fn names_in(alloc: Global, names: &[TypeName]) -> Mem<BTreeSet<TypeName>>
-    ensures { IfOk result (λ set. (name : TypeName) → contains name_order set name ≡ list_any (same_name name) names.now) }
+/// The names of a list, by namespace.
+pub(crate) fn names_in(
+    alloc: Global,
+    names: &[TypeName],
+) -> Mem<BTreeMap<Text, BTreeSet<Text>>>
+    ensures { IfOk result (λ spaces. (namespace name : List ℕ) → has_name spaces namespace name ≡ list_any (is_called namespace name) names.now) }
 {
-    let mut set = BTreeSet::new(alloc);
+    let mut spaces = BTreeMap::new(alloc);
     for name in names {
-        set.insert(name.try_clone(alloc)?)?;
+        note_name(alloc, &mut spaces, name)?;
     }
-    Ok(set)
+    Ok(spaces)
+}
+
+/// Notes a name in its namespace.
+fn note_name(
+    alloc: Global,
+    spaces: &mut BTreeMap<Text, BTreeSet<Text>>,
+    noted: &TypeName,
+) -> Mem<()>
+    ensures { OnOk result ((namespace name : List ℕ) → has_name spaces.new namespace name
+        ≡ (if is_called namespace name noted.now then true else has_name spaces.old namespace name)) }
+{
+    let mut names = take_names(alloc, spaces, &noted.namespace);
+    names.insert(noted.name.try_clone(alloc)?)?;
+    spaces.insert(noted.namespace.try_clone(alloc)?, names)?;
+    Ok(())
+}
+
+/// Takes the names of a namespace out.
+fn take_names(
+    alloc: Global,
+    spaces: &mut BTreeMap<Text, BTreeSet<Text>>,
+    namespace: &Text,
+) -> BTreeSet<Text>
+    ensures taken { (name : List ℕ) → contains text_order result name ≡ has_name spaces.old namespace.now name }
+    ensures others { (other : List ℕ) → get text_order spaces.new other ≡ (if same_bytes other namespace.now then None else get text_order spaces.old other) }
+{
+    match spaces.remove(namespace) {
+        Some(names) => names,
+        None => BTreeSet::new(alloc),
+    }
 }
 
 /// Notes the place of an endpoint for one name.

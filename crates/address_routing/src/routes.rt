@@ -21,7 +21,8 @@ pub struct Routes {
     exact: BTreeMap<TypeName, usize>,
     /// The same, by the namespace for all names of which it is.
     wide: BTreeMap<Text, usize>,
-    egresses: BTreeSet<TypeName>,
+    /// The names of the egresses, by namespace.
+    egresses: BTreeMap<Text, BTreeSet<Text>>,
 }
 
 impl Model for Routes {
@@ -78,11 +79,14 @@ impl Routes {
         }
     }
 
-    /// Whether the module has an egress of that name.
-    pub fn knows_egress(&self, name: &TypeName) -> bool
-        ensures { result ≡ knows_egress self.now name.now }
+    /// Whether the module has an egress of that name in that namespace.
+    pub fn knows_egress(&self, namespace: &Text, name: &Text) -> bool
+        ensures { result ≡ knows_egress self.now namespace.now name.now }
     {
-        self.egresses.contains(name)
+        match self.egresses.get(namespace) {
+            Some(names) => names.contains(name),
+            None => false,
+        }
     }
 
     /// The URL at which functions of a type are called: the template of its endpoint, with each `{function.name}`

@@ -53,7 +53,7 @@ pub fn head_bytes(address: &Address, cells: &Cells, moment: u64) -> u64
 }
 
 /// How many bytes the records of a request have so far, or `u64::MAX` where they have more. Contracts see that number.
-#[derive(Clone, Copy, Debug, PartialEq, Eq)]
+#[derive(Drop)]
 pub struct RequestSize {
     records: u64,
 }
