@@ -17,8 +17,8 @@ AreExact compare = CmpEqualImpliesEq compare
 abbrev pub list_at : {K X : Type 0} → (K → K → Ordering) → BTreeMap K (List X) → K → List X
 list_at compare lists key = unwrap_or (get compare lists key) []
 
--- one key has this list now, and each other key what it had
-pub record ChangesAt {K X : Type 0} (before after : K → List X) (key : K) (now : List X) : Type 0 where
+-- one key has this value now, and each other key what it had
+pub record SetsAt {K V : Type 0} (before after : K → V) (key : K) (now : V) : Type 0 where
   pub here : after key ≡ now
   pub others : (other : K) → (other ≡ key → ⊥) → after other ≡ before other
 
@@ -53,8 +53,3 @@ HasBehind {A} {B} outer_compare inner_compare before items after =
 -- the number of a key; one that is not there has 0
 abbrev pub number_at : {K : Type 0} → (K → K → Ordering) → BTreeMap K ℕ → K → ℕ
 number_at compare numbers key = unwrap_or (get compare numbers key) 0
-
--- one key has this number now, and each other key what it had
-pub record SetsAt {K : Type 0} (before after : K → ℕ) (key : K) (now : ℕ) : Type 0 where
-  pub here : after key ≡ now
-  pub others : (other : K) → (other ≡ key → ⊥) → after other ≡ before other

@@ -1,6 +1,6 @@
 //! Queues by key.
 ghost use Rattle.std.specs.Prelude.{◌≡◌, ◌+◌, ◌-◌, [], ◌∷◌, ◌++◌, drop, take, length, slice_get, OnOk, OnErr, IsTrue, option_copied};
-ghost use Rattle.keyed_queues.specs.Queues.{AreExact, list_at, ChangesAt};
+ghost use Rattle.keyed_queues.specs.Queues.{AreExact, list_at, SetsAt};
 
 use crate::queue::Queue;
 use proto_wire::{Mem, TryClone};
@@ -42,7 +42,7 @@ impl<K: Key, T: Drop> Shelf<K, T> {
 
     /// Adds a value at the end of a key's queue. An `Err` changes no queue, and the value is dropped.
     pub fn push(&mut self, alloc: Global, key: &K, value: T) -> Mem<()>
-        ensures ok { OnOk result (ChangesAt (list_at K.cmp self.old.queues) (list_at K.cmp self.new.queues)
+        ensures ok { OnOk result (SetsAt (list_at K.cmp self.old.queues) (list_at K.cmp self.new.queues)
             key.now (list_at K.cmp self.old.queues key.now ++ value ∷ [])) }
         ensures err { OnErr result ((other : K) → list_at K.cmp self.new.queues other ≡ list_at K.cmp self.old.queues other) }
     {
@@ -57,7 +57,7 @@ impl<K: Key, T: Drop> Shelf<K, T> {
 
     /// Drops the first value of a key's queue, if there is one.
     pub fn drop_first(&mut self, key: &K)
-        ensures { ChangesAt (list_at K.cmp self.old.queues) (list_at K.cmp self.new.queues)
+        ensures { SetsAt (list_at K.cmp self.old.queues) (list_at K.cmp self.new.queues)
             key.now (drop 1 (list_at K.cmp self.old.queues key.now)) }
     {
         if let Some(queue) = self.queues.get_mut(key) {
@@ -68,7 +68,7 @@ impl<K: Key, T: Drop> Shelf<K, T> {
 
     /// Drops the last value of a key's queue, if there is one.
     pub fn drop_last(&mut self, key: &K)
-        ensures { ChangesAt (list_at K.cmp self.old.queues) (list_at K.cmp self.new.queues)
+        ensures { SetsAt (list_at K.cmp self.old.queues) (list_at K.cmp self.new.queues)
             key.now (take (length (list_at K.cmp self.old.queues key.now) - 1) (list_at K.cmp self.old.queues key.now)) }
     {
         if let Some(queue) = self.queues.get_mut(key) {
