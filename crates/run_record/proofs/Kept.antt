@@ -167,12 +167,12 @@ own_taken split taken taken' parts act counts is (Split n) = go (nat_eq split n)
         subst (λ k. as_split (get_or taken' k 0) ≡ left act (own_by taken parts (Split k))) same (ap as_split counts.here ∙ sym is)
     go false e = ap as_split (counts.others n (λ same. true≢false (sym (eq-eqb split n (sym same)) ∙ e)))
 
+not_split : (address : Address) (n : ℕ) → same_sender (Function address) (Split n) ≡ false
+unfolding same_sender
+not_split address n = refl
+
 pub own_changed : (address : Address) (taken : List ℕ) (parts parts' : Parts) (act : Act) → SetsAt (own_in parts) (own_in parts') address (left act (own_in parts address)) → (actor : Sender) → own_by taken parts' actor ≡ cond (same_sender (Function address) actor) (left act (own_by taken parts actor)) (own_by taken parts actor)
-own_changed address taken parts parts' act sets (Split n) = other
-  where
-    other : own_by taken parts' (Split n) ≡ cond (same_sender (Function address) (Split n)) (left act (own_by taken parts (Split n))) (own_by taken parts (Split n))
-    unfolding same_sender
-    other = refl
+own_changed address taken parts parts' act sets (Split n) = sym (ap (λ t. cond t (left act (own_by taken parts (Split n))) (own_by taken parts (Split n))) (not_split address n))
 own_changed address taken parts parts' act sets (Function b) = go (same_sender (Function address) (Function b)) refl
   where
     go : (t : Bool) → same_sender (Function address) (Function b) ≡ t → own_in parts' b ≡ cond t (left act (own_in parts b)) (own_in parts b)

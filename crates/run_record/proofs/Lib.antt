@@ -2,4 +2,13 @@ pub mod Steps
 pub mod Backing
 pub mod Known
 pub mod Picks
+pub mod Changes
 pub mod Kept
+pub mod Orders
+pub mod Requests
+pub mod Judged
+pub mod LawsOfOwn
+pub mod LawsOfMail
+pub mod LawsOfEgress
+pub mod Laws
+pub mod Written

@@ -1,6 +1,6 @@
 -- Picks, one by one.
 use Rattle.std.proofs.Common.{◌≡◌, ◌∙◌, sym, ap, subst, refl, ℕ, ◌+◌, ◌<◌, ◌≤◌, ◌⊎◌, inl, inr, List, [], ◌∷◌, ◌++◌, Bool, true, false, true≢false, cond, take, drop, get_or, length, count_by, slice_get, Option, Some, None, option_and_then, option_map, arith, append-nil, zero-add, drop-drop}
-use Rattle.std.proofs.lemmas.List.{take_more, drop_more}
+use Rattle.std.proofs.lemmas.List.{take_more, drop_more, drop_all}
 use Rattle.std.proofs.lemmas.List.Sums.{sum_by-append, sum_by-cons}
 use Rattle.std.proofs.lemmas.Bool.{false_from_ne_true}
 use Rattle.proto_wire.specs.Message.{capped}
@@ -74,6 +74,7 @@ address_in other (Split split) = other
 address_in other (Function address) = address
 
 pub same_function : (a b : Address) → same_sender (Function a) (Function b) ≡ true → a ≡ b
+unfolding address_in
 same_function a b e = ap (address_in a) ((same_sender-Decides (Function a) (Function b)).0 e)
 
 by_address : (address target : Address) → ((same_sender (Function address) (Function target) ≡ true) × (target ≡ address)) ⊎ ((same_sender (Function address) (Function target) ≡ false) × (target ≡ address → ⊥))
@@ -120,3 +121,23 @@ counted-more picks i pick before after count inside at was counted sets sender =
     go : (((same_sender sender pick ≡ true) × (sender ≡ pick)) ⊎ ((same_sender sender pick ≡ false) × (sender ≡ pick → ⊥))) → after sender ≡ count_by (same_sender sender) (take (i + 1) picks)
     go (inl (f, here)) = subst (λ s. after s ≡ count_by (same_sender s) (take (i + 1) picks)) (sym here) (sets.here ∙ ap (λ n. n + 1) (counted ∙ was pick) ∙ sym (count-here picks i pick inside at))
     go (inr (f, apart)) = sets.others sender apart ∙ was sender ∙ sym (count-beside picks i pick sender inside at apart)
+
+-- ---- sizes
+
+pub capped_again : (size bytes : ℕ) → size ≡ capped bytes → size ≡ capped size
+capped_again size bytes is = omega (arith, is)
+
+-- before the first pick
+pub sized_none : (target : Address) (mail : Sender → List TypedValue) (picks : List Sender) (records size : ℕ) → size ≡ capped records → option_map (λ (letters : List Letter). capped (records + records_size letters)) (picked target mail picks) ≡ sized_on target mail picks 0 size
+unfolding picked
+sized_none target mail picks records size is = same (picked_behind target [] mail picks)
+  where
+    same : (o : Option (List Letter)) → option_map (λ (letters : List Letter). capped (records + records_size letters)) o ≡ option_map (λ (rest : List Letter). capped (size + records_size rest)) o
+    same None = refl
+    same (Some rest) = ap Some (together records 0 (records_size rest) size (is ∙ ap capped (omega arith)) (records_size rest) (omega arith))
+
+-- behind the last
+pub sized_end : (target : Address) (mail : Sender → List TypedValue) (picks : List Sender) (i size : ℕ) → length picks ≤ i → size ≡ capped size → sized_on target mail picks i size ≡ Some size
+sized_end target mail picks i size all is =
+    ap (λ xs. option_map (λ (rest : List Letter). capped (size + records_size rest)) (picked_behind target (take i picks) mail xs)) (drop_all i picks all)
+    ∙ ap Some (ap capped (omega arith) ∙ sym is)

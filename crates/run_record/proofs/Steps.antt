@@ -16,7 +16,7 @@ use Rattle.run_record.specs.declared.entry.Entry.{Entry}
 use Rattle.run_record.specs.declared.entry.Step.{Step}
 use Rattle.run_record.specs.declared.entry.Step.TheVariants.{Take, Batch, Register, Due}
 use Rattle.run_record.specs.declared.entry.Reply.{Reply}
-use Rattle.run_record.specs.Machine.{Own, Mail, State, Act, actor_of, took, served, judged, batch_act, register_act, act_of, is_asked, may_act, acted, made, step_with, request_of_picks}
+use Rattle.run_record.specs.Machine.{Own, Mail, State, Act, actor_of, took, served, judged, answer_by, batch_act, register_act, act_of, is_asked, may_act, acted, made, step_with, request_of_picks}
 use Rattle.run_record.specs.Record.{next_record, step_after, replayed}
 
 -- ---- options
@@ -54,7 +54,7 @@ step_with-some m found st next step h = some_from_map (λ act. acted step act st
 
 -- an answer that is taken, by what it is
 abbrev pub answer_in : Module → State → Reply → Option Judged
-answer_in m st reply = if is_asked m (st.own (Function reply.address)) st.mail reply then Some (judged m (st.own (Function reply.address)) reply) else None
+answer_in m st reply = answer_by m (st.own (Function reply.address)) st.mail reply
 
 pub batch-made : (m : Module) (found : Option IngressRecord) (st : State) (reply : Reply) → made m found st (Batch reply) ≡ option_and_then (λ j. batch_act reply j (st.own (Function reply.address))) (answer_in m st reply)
 unfolding made

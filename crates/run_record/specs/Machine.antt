@@ -231,6 +231,10 @@ abbrev pub is_asked : Module → Own → Mail → Reply → Bool
 is_asked m own mail reply =
     nat_le own.seen reply.moment && is_some (request_of_picks m own.cells (λ sender. mail sender reply.address) reply.address reply.moment reply.picks)
 
+-- what the answer of a reply is, where it is taken
+abbrev pub answer_by : Module → Own → Mail → Reply → Option Judged
+answer_by m own mail reply = if is_asked m own mail reply then Some (judged m own reply) else None
+
 -- a step may be made, as far as letters go
 abbrev pub may_act : Module → Own → Mail → Step → Bool
 may_act m own mail step = option_map_or (is_asked m own mail) (reply_of step) true

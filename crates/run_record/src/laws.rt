@@ -1,10 +1,12 @@
 //! What follows from the definitions of the machine, over every record that replays.
 //!
-//! Each function does nothing: its contract is a law.
+//! Each function does nothing, or calls such a law of a lower crate: its contract is a law.
 ghost use Rattle.run_record.specs.Deliveries.{EachTakenOnce, TakenInOrder, DeliveredInOrder};
 ghost use Rattle.run_record.specs.Egress.{EgressIsOfAnswers};
 ghost use Rattle.run_record.specs.Histories.{CellsAreMade, LastWrittenIsCarried, DelaysAreMade, SentOnce, SentInTime, NotSentOnceCancelled};
 ghost use Rattle.run_record.specs.Histories.{MomentsNeverFall, OnlyValidAnswersCount};
+
+use delayed_messages::{none_is_sent_early, the_least_is_due};
 
 /// A record of a split is taken at most once.
 pub fn each_record_is_taken_once()
@@ -47,17 +49,23 @@ pub fn delays_are_those_of_accepted_answers()
 /// A delayed letter is sent at most once.
 pub fn a_delayed_letter_is_sent_once()
     ensures { SentOnce }
-{}
+{
+    the_least_is_due();
+}
 
 /// A delayed letter is never sent before its time.
 pub fn a_delayed_letter_is_sent_in_time()
     ensures { SentInTime }
-{}
+{
+    none_is_sent_early();
+}
 
 /// A delayed letter is never sent after its cancellation.
 pub fn a_delayed_letter_is_not_sent_once_cancelled()
     ensures { NotSentOnceCancelled }
-{}
+{
+    the_least_is_due();
+}
 
 /// The moments of an address never fall.
 pub fn moments_never_fall()

@@ -1,12 +1,12 @@
 //! What an address has of its own.
-ghost use Rattle.std.specs.Prelude.{◌≡◌, ◌≤◌, ◌∷◌, [], ℕ, List, map, length, IsTrue, IfOk, Ok, true, OnOk, OnErr, option_copied, slice_get};
+ghost use Rattle.std.specs.Prelude.{◌≡◌, ◌<◌, ◌≤◌, ◌+◌, map, length, IsTrue, IfOk, Ok, true, OnOk, OnErr, option_copied, slice_get};
 ghost use Rattle.typed_values.specs.Cells.{registered};
 ghost use Rattle.state_cells.specs.Answers.{registering};
-ghost use Rattle.state_cells.specs.Lifetimes.{Registers, Invokes, after_all as cells_after};
-ghost use Rattle.delayed_messages.specs.Laws.{after_all as delays_after};
+ghost use Rattle.state_cells.specs.Lifetimes.{Registers, after as cell_after, after_all as cells_after};
+ghost use Rattle.delayed_messages.specs.Laws.{after as delay_after, after_all as delays_after};
 ghost use Rattle.invocation.specs.Laws.{Takes, TakesAll, AreNew};
 ghost use Rattle.run_record.specs.Machine.{cell_call, delay_call, nothing};
-ghost use Rattle.run_record.specs.StateOf.{own_of};
+ghost use Rattle.run_record.specs.StateOf.{own_of, after_batch, after_registration, after_due};
 
 use delayed_messages::Delays;
 use invocation::{Change, DelayChange};
@@ -47,10 +47,25 @@ impl Part {
     }
 
     /// Whether it is nothing.
+    #[tactic(auto, using(crate::proofs::Changes::is_nothing))]
     pub(crate) fn is_nothing(&self) -> bool
         ensures { IsTrue result → own_of self.now ≡ nothing }
     {
-        self.cells.len() == 0 && self.seen == 0 && self.delays.first().is_none()
+        if self.cells.len() > 0 || self.seen > 0 {
+            return false;
+        }
+        match self.delays.first() {
+            Some(_delay) => false,
+            None => true,
+        }
+    }
+
+    /// Makes room for so many delays.
+    pub(crate) fn reserve(&mut self, delays: usize) -> Mem<()>
+        ensures room { OnOk result (delays ≤ self.new.delays.spare) }
+        ensures same { own_of self.new ≡ own_of self.old }
+    {
+        self.delays.reserve(delays)
     }
 
     /// What a batch of the address does at a moment. There is room for the delays. Takes no memory.
@@ -63,9 +78,7 @@ impl Part {
     )
         requires fits { TakesAll self.old.cells mutations }
         requires room { length delays ≤ self.old.delays.spare }
-        ensures cells { self.new.cells ≡ cells_after (Invokes moment ∷ map (cell_call moment) mutations) self.old.cells }
-        ensures seen { self.new.seen ≡ moment }
-        ensures delays { self.new.delays.delays ≡ delays_after (map (delay_call address.now) delays) self.old.delays.delays }
+        ensures { own_of self.new ≡ after_batch address.now moment mutations delays (own_of self.old) }
     {
         self.cells.invoked(moment);
         change_cells(&mut self.cells, moment, mutations);
@@ -76,14 +89,20 @@ impl Part {
     /// What a registration of new cells does at a moment. An `Err` leaves all.
     pub(crate) fn register(&mut self, specs: List<CellSpec>, moment: u64) -> Mem<()>
         requires { AreNew self.old.cells specs }
-        ensures ok { OnOk result (self.new.cells ≡ cells_after (map Registers specs) self.old.cells) }
-        ensures seen { OnOk result (self.new.seen ≡ moment) }
-        ensures delays { self.new.delays ≡ self.old.delays }
-        ensures err { OnErr result ((self.new.cells ≡ self.old.cells) × (self.new.seen ≡ self.old.seen)) }
+        ensures ok { OnOk result (own_of self.new ≡ after_registration moment specs (own_of self.old)) }
+        ensures err { OnErr result (own_of self.new ≡ own_of self.old) }
     {
         register_all(&mut self.cells, specs)?;
         self.seen = moment;
         Ok(())
+    }
+
+    /// Drops the delay that is due at a moment, if one is.
+    #[tactic(auto, using(crate::proofs::Changes::left_due))]
+    pub(crate) fn drop_due(&mut self, moment: u64)
+        ensures { own_of self.new ≡ after_due moment (own_of self.old) }
+    {
+        let _sent = self.delays.next_due(moment);
     }
 }
 
@@ -100,7 +119,7 @@ fn change_cells(cells: &mut Cells, moment: u64, changes: List<Change>)
 /// Makes a change of a cell that takes it.
 fn change_cell(cells: &mut Cells, moment: u64, change: Change)
     requires { Takes cells.old change }
-    ensures { cells.new ≡ cells_after (cell_call moment change ∷ []) cells.old }
+    ensures { cells.new ≡ cell_after (cell_call moment change) cells.old }
 {
     match change {
         Change::Set { name, value } => {
@@ -118,11 +137,20 @@ fn change_delays(delays: &mut Delays, address: &Address, changes: List<DelayChan
     ensures { delays.new.delays ≡ delays_after (map (delay_call address.now) changes) delays.old.delays }
 {
     for change in changes.into_vec() {
-        match change {
-            DelayChange::Add(delay) => delays.put(delay),
-            DelayChange::Cancel(token) => {
-                let _count = delays.cancel(address, &token);
-            }
+        change_delay(delays, address, change);
+    }
+}
+
+/// Puts a delay of an address, or cancels some. There is room for it.
+fn change_delay(delays: &mut Delays, address: &Address, change: DelayChange)
+    requires { 0 < delays.old.spare }
+    ensures delays { delays.new.delays ≡ delay_after (delay_call address.now change) delays.old.delays }
+    ensures spare { delays.old.spare ≤ delays.new.spare + 1 }
+{
+    match change {
+        DelayChange::Add(delay) => delays.put(delay),
+        DelayChange::Cancel(token) => {
+            let _count = delays.cancel(address, &token);
         }
     }
 }

@@ -52,13 +52,13 @@ impl Parts {
     /// Makes an address have a part with room for so many delays. Changes nothing of what any has.
     pub(crate) fn reserve(&mut self, alloc: Global, address: &Address, delays: usize) -> Mem<()>
         ensures room { OnOk result (HasPart (λ part. delays ≤ part.delays.spare) (get address_order self.new.parts address.now)) }
-        ensures same { (other : Address) → own_in self.new other ≡ own_in self.old other }
+        ensures same { SetsAt (own_in self.old) (own_in self.new) address.now (own_in self.old address.now) }
     {
         if let Some(part) = self.parts.get_mut(address) {
-            return part.delays.reserve(delays);
+            return part.reserve(delays);
         }
         let mut part = Part::new(alloc)?;
-        part.delays.reserve(delays)?;
+        part.reserve(delays)?;
         self.parts.insert(address.try_clone(alloc)?, part)?;
         Ok(())
     }
@@ -92,7 +92,7 @@ impl Parts {
         requires { AreNew (own_in self.old address.now).cells specs }
         ensures ok { OnOk result (SetsAt (own_in self.old) (own_in self.new) address.now
             (after_registration moment specs (own_in self.old address.now))) }
-        ensures err { OnErr result ((other : Address) → own_in self.new other ≡ own_in self.old other) }
+        ensures err { OnErr result (SetsAt (own_in self.old) (own_in self.new) address.now (own_in self.old address.now)) }
     {
         if let Some(part) = self.parts.get_mut(address) {
             return part.register(specs, moment);
@@ -108,7 +108,7 @@ impl Parts {
         ensures { SetsAt (own_in self.old) (own_in self.new) address.now (after_due moment (own_in self.old address.now)) }
     {
         if let Some(part) = self.parts.get_mut(address) {
-            let _sent = part.delays.next_due(moment);
+            part.drop_due(moment);
         }
     }
 

@@ -1,8 +1,8 @@
 //! The answers of a machine's addresses.
-ghost use Rattle.std.specs.Prelude.{◌≡◌, is_some, IfOk, IfSome, Some, None, if◌then◌else◌};
+ghost use Rattle.std.specs.Prelude.{◌≡◌, ◌&&◌, nat_lt, nat_le, is_some, IfOk, IfSome, Some, None, if◌then◌else◌};
 ghost use Rattle.typed_values.specs.declared.letter.Sender.TheVariants.{Function};
 ghost use Rattle.invocation.specs.Laws.{Fits};
-ghost use Rattle.run_record.specs.Machine.{is_asked, judged, nothing, request_of_picks};
+ghost use Rattle.run_record.specs.Machine.{answer_by, nothing, request_of_picks};
 ghost use Rattle.run_record.specs.StateOf.{own_of, state_of};
 
 use crate::Reply;
@@ -13,6 +13,13 @@ use address_routing::Routes;
 use invocation::{Judged, RequestSize, a_request_is_its_head_and_its_letters, judge};
 use proto_wire::Mem;
 use std::alloc::Global;
+
+/// Whether a batch may have so many letters.
+fn is_count(letters: usize, most: u32) -> bool
+    ensures { result ≡ (nat_lt 0 letters && nat_le letters most) }
+{
+    letters > 0 && letters <= most as usize
+}
 
 /// Whether picks of letters to an address with such a part give a request.
 #[tactic(auto, unfolding(crate::specs::Machine::request_of_picks, crate::specs::StateOf::state_of))]
@@ -29,8 +36,8 @@ fn has_request(
     let Some(endpoint) = routes.endpoint_of(&reply.address.kind) else {
         return Ok(false);
     };
-    let letters = reply.picks.len();
-    if letters == 0 || letters > endpoint.max_letters as usize {
+    let is_count = is_count(reply.picks.len(), endpoint.max_letters);
+    if !is_count {
         return Ok(false);
     }
     a_request_is_its_head_and_its_letters();
@@ -50,13 +57,17 @@ pub(crate) fn judged_reply(
     routes: &Routes,
     reply: &Reply,
 ) -> Mem<Option<Judged>>
-    ensures judged { let own = (state_of machine.now).own (Function reply.now.address) in IfOk result (λ answer. answer ≡
-        (if is_asked routes.now own (state_of machine.now).mail reply.now then Some (judged routes.now own reply.now) else None)) }
+    ensures judged { let own = (state_of machine.now).own (Function reply.now.address) in IfOk result (λ answer.
+        answer ≡ answer_by routes.now own (state_of machine.now).mail reply.now) }
     ensures fits { IfOk result (λ answer. IfSome answer (Fits ((state_of machine.now).own (Function reply.now.address)).cells)) }
 {
     let none = Part::new(alloc)?;
     let part = machine.parts.get_or(&reply.address, &none);
-    if reply.moment < part.seen || !has_request(alloc, machine, routes, part, reply)? {
+    if reply.moment < part.seen {
+        return Ok(None);
+    }
+    let is_there = has_request(alloc, machine, routes, part, reply)?;
+    if !is_there {
         return Ok(None);
     }
     let bytes = reply.answer.as_slice();
