@@ -50,6 +50,7 @@ head-more address cells cell moment =
     one-behind : (cells : List Cell) → map (shipped moment) (cells ++ cell ∷ []) ≡ map (shipped moment) cells ++ shipped moment cell ∷ []
     one-behind [] = refl
     one-behind (x ∷ xs) = ap (λ others. shipped moment x ∷ others) (one-behind xs)
+
 -- the letters do not count for the head
 pub request-parts : (address : Address) (cells : List Cell) (moment : ℕ) (letters : List Letter)
     → length (to_spelling (request_of address cells moment letters)) ≡ request_size (head_size address cells moment) letters
@@ -74,5 +75,5 @@ pub size-more : (address : Address) (cells : List Cell) (moment place : ℕ) (ce
     → min (size + capped (length (bytes_record 2 (spelling persisted_value_rows (shipped moment cell))))) (2 ^ 64 - 1) ≡ capped (head_size address (take (place + 1) cells) moment)
 size-more address cells moment place cell size e is =
     let more : head_size address (take (place + 1) cells) moment ≡ head_size address (take place cells) moment + length (bytes_record 2 (spelling persisted_value_rows (shipped moment cell))) =
-        ap (λ xs. head_size address xs moment) (taken-more cells place cell e) ∙ head-more address (take place cells) cell moment in
+    ap (λ xs. head_size address xs moment) (taken-more cells place cell e) ∙ head-more address (take place cells) cell moment in
     omega (arith, more, is)

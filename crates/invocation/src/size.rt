@@ -81,7 +81,9 @@ impl RequestSize {
         ensures { (target : Address) (records : ℕ) → self.old ≡ capped records →
             self.new ≡ capped (records + length (letter_record (record { sender = sender.now; target = target; argument = argument.now }))) }
     {
-        self.records = self.records.saturating_add(size_letter_from(sender, argument));
+        self.records = self
+            .records
+            .saturating_add(size_letter_from(sender, argument));
     }
 
     /// How many bytes the request's canonical spelling has, or `u64::MAX` where it has more.
@@ -96,7 +98,10 @@ impl RequestSize {
     pub fn is_within(&self, limit: u64) -> bool
         ensures { (records : ℕ) → self.now ≡ capped records → result ≡ nat_le (enclosed records) limit }
     {
-        match self.records.checked_add(varint_size(REQUEST_TAG) + varint_size(self.records)) {
+        match self
+            .records
+            .checked_add(varint_size(REQUEST_TAG) + varint_size(self.records))
+        {
             Some(bytes) => bytes <= limit,
             None => false,
         }
