@@ -1,12 +1,14 @@
--- A type has an endpoint exactly where the patterns have one that is for it.
+-- A type has an endpoint exactly where the patterns have one that is for it, and a name is that of an egress whichever way it is looked up.
 use Rattle.std.proofs.Common.{◌≡◌, ◌∙◌, sym, ap, refl, Bool, true, false, cond, List, [], ◌∷◌, map, Option, Some, None, is_some}
 use Rattle.std.specs.Prelude.{ℕ, ◌&&◌, ◌||◌, find}
 use Rattle.std.specs.Option.{option_map_or}
 use Rattle.std.specs.List.{list_any}
-use Rattle.typed_values.specs.Sameness.{same_bytes}
+use Rattle.std.specs.Cmp.Lexicographic.{bytes_decides}
+use Rattle.std.proofs.lemmas.Bool.Decides.{same_from_decides}
+use Rattle.typed_values.specs.Sameness.{same_bytes, same_name}
 use Rattle.typed_values.specs.declared.name.TypeName.{TypeName}
 use Rattle.typed_values.specs.declared.pattern.TypePattern.{TypePattern}
-use Rattle.request_reply.specs.Flaws.{is_pattern_of, has_endpoint}
+use Rattle.request_reply.specs.Flaws.{is_pattern_of, has_endpoint, has_egress}
 use Rattle.address_routing.specs.declared.module.Module.{Module}
 use Rattle.address_routing.specs.declared.module.Endpoint.{Endpoint}
 use Rattle.address_routing.specs.Routing.{is_exact, is_wide, or_else, endpoint_of}
@@ -49,3 +51,14 @@ any-pattern kind (endpoint ∷ endpoints) = (λ i. sym (pattern-is kind endpoint
 pub endpoint-is : (m : Module) (kind : TypeName) → is_some (endpoint_of m kind) ≡ has_endpoint (map (λ (endpoint : Endpoint). endpoint.pattern) m.endpoints) kind
 unfolding endpoint_of
 endpoint-is m kind = found-any (is_exact kind) (is_wide kind) m.endpoints ∙ any-pattern kind m.endpoints
+
+-- ---- egresses
+
+turned : (a b : List ℕ) → same_bytes a b ≡ same_bytes b a
+turned a b = same_from_decides (same_bytes a b) (same_bytes b a) (bytes_decides a b) (λ e. sym ((bytes_decides b a).0 e), λ e. (bytes_decides b a).1 (sym e))
+
+pub egress-is : (egresses : List TypeName) (namespace name : List ℕ) → list_any (same_name (record { namespace = namespace; name = name })) egresses ≡ has_egress egresses namespace name
+unfolding same_name
+egress-is [] namespace name = refl
+egress-is (egress ∷ egresses) namespace name =
+    (λ i. (turned namespace egress.namespace i && turned name egress.name i) || egress-is egresses namespace name i)
