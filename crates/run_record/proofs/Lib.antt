@@ -1,10 +1,5 @@
-pub mod LawsOfSteps
-pub mod LawsOfEgress
-pub mod LawsOfMail
-pub mod Behind
+pub mod Steps
+pub mod Backing
+pub mod Known
 pub mod Picks
 pub mod Kept
-pub mod Requests
-pub mod Serving
-pub mod Known
-pub mod Orders
