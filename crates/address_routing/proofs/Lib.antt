@@ -1,2 +1,3 @@
 mod Templates
 mod Naming
+mod Hashes

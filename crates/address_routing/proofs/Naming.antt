@@ -2,6 +2,9 @@
 use Rattle.std.proofs.Common.{◌≡◌, ◌∙◌, sym, ap, subst, ℕ, zero, suc, ◌+◌, ◌<◌, Bool, true, false, cond, List, [], ◌∷◌, ◌++◌, length, drop, take, get_or, arith, Option, Some, None, slice_get, refl}
 use Rattle.std.specs.Prelude.{find, ◌&&◌, ◌||◌}
 use Rattle.std.specs.List.{list_any}
+use Rattle.std.specs.Option.{option_map_or}
+use Rattle.std.specs.BTreeMap.{BTreeMap, get}
+use Rattle.std.specs.BTreeSet.{BTreeSet, contains}
 use Rattle.std.specs.Bool.{Decides}
 use Rattle.std.specs.declared.cmp.Ordering.{Ordering}
 use Rattle.std.specs.Ordering.{is_eq}
@@ -19,9 +22,8 @@ use Rattle.typed_values.specs.Sameness.{same_name, same_bytes}
 use Rattle.typed_values.proofs.Sameness.{same_name-Decides}
 use Rattle.typed_values.proofs.Orders.{exact_names}
 use Rattle.address_routing.specs.declared.module.Endpoint.{Endpoint}
-use Rattle.address_routing.specs.Routing.{is_exact, is_wide, is_called}
-use Rattle.address_routing.specs.Kept.{name_order, text_order, in_set, endpoint_at}
-use Rattle.std.specs.BTreeSet.{BTreeSet, contains}
+use Rattle.address_routing.specs.Routing.{is_exact, is_wide}
+use Rattle.address_routing.specs.Kept.{name_order, text_order, endpoint_at, has_name}
 
 names_total : IsTotalOrder name_order
 names_total = then_total (on_total (λ (n : TypeName). n.namespace) nat_list_cmp_total) (on_total (λ (n : TypeName). n.name) nat_list_cmp_total)
@@ -75,49 +77,57 @@ noted_more test endpoints place endpoint before after inside here rest now =
     go false e = rest
 
 -- the name behind those that are noted
-pub any_more : (names : List TypeName) (place : ℕ) (item : TypeName) (namespace name : List ℕ) (before after : Bool) →
+pub any_more : (names : List TypeName) (place : ℕ) (item name : TypeName) (before after : Bool) →
     place < length names → get_or names place item ≡ item →
-    before ≡ list_any (is_called namespace name) (take place names) →
-    after ≡ cond (is_called namespace name item) true before →
-    after ≡ list_any (is_called namespace name) (take (place + 1) names)
-any_more names place item namespace name before after inside here rest now =
-    now ∙ ap (λ (b : Bool). cond (is_called namespace name item) true b) rest ∙ or_comm (is_called namespace name item) (list_any (is_called namespace name) (take place names))
-    ∙ sym (ap (list_any (is_called namespace name)) (take_more names place item inside ∙ ap (λ x. take place names ++ x ∷ []) here) ∙ list_any-append (is_called namespace name) (take place names) (item ∷ []) ∙ ap (λ b. list_any (is_called namespace name) (take place names) || b) (or-false (is_called namespace name item)))
+    before ≡ list_any (same_name name) (take place names) →
+    after ≡ (same_name name item || before) →
+    after ≡ list_any (same_name name) (take (place + 1) names)
+any_more names place item name before after inside here rest now =
+    now ∙ ap (λ b. same_name name item || b) rest ∙ or_comm (same_name name item) (list_any (same_name name) (take place names))
+    ∙ sym (ap (list_any (same_name name)) (take_more names place item inside ∙ ap (λ x. take place names ++ x ∷ []) here) ∙ list_any-append (same_name name) (take place names) (item ∷ []) ∙ ap (λ b. list_any (same_name name) (take place names) || b) (or-false (same_name name item)))
   where
     or-false : (b : Bool) → (b || false) ≡ b
     or-false false = refl
     or-false true = refl
 
-    or_comm : (a b : Bool) → cond a true b ≡ (b || a)
+    or_comm : (a b : Bool) → (a || b) ≡ (b || a)
     or_comm false false = refl
     or_comm false true = refl
     or_comm true false = refl
     or_comm true true = refl
 
--- ---- a name more in its namespace
-
-text_tells : (key text : List ℕ) → is_eq (text_order key text) ≡ same_bytes key text
-text_tells key text = same_from_decides (is_eq (text_order key text)) (same_bytes key text) (tested text_order nat_list_cmp_total exact_bytes key text) (bytes_decides key text)
-
--- the set of the name's namespace has one name more, and all others stay
-pub name_more : (egress : TypeName) (namespace name space key : List ℕ) (old new : Option (BTreeSet (List ℕ))) (names set : BTreeSet (List ℕ)) →
-    space ≡ egress.namespace → key ≡ egress.name →
-    contains text_order set name ≡ cond (is_eq (text_order key name)) true (contains text_order names name) →
-    (egress.namespace ≡ namespace → contains text_order names name ≡ in_set name old) →
-    new ≡ cond (is_eq (text_order space namespace)) (Some set) (cond (same_bytes namespace egress.namespace) None old) →
-    in_set name new ≡ cond (is_called namespace name egress) true (in_set name old)
-name_more egress namespace name space key old new names set spaced keyed holds taken now =
-    ap (in_set name) (now ∙ ap (λ (b : Bool). cond b (Some set) (cond (same_bytes namespace egress.namespace) None old)) (text_tells space namespace ∙ ap (λ s. same_bytes s namespace) spaced))
-    ∙ by_space (same_bytes egress.namespace namespace) refl (same_bytes namespace egress.namespace) refl
+-- what is noted after one name more
+pub name_more : (noted name : TypeName) (key part : List ℕ) (found : Option (BTreeSet (List ℕ))) (set more : BTreeSet (List ℕ)) (old mid new : BTreeMap (List ℕ) (BTreeSet (List ℕ))) →
+    key ≡ noted.namespace → part ≡ noted.name →
+    found ≡ get text_order old noted.namespace →
+    contains text_order set name.name ≡ option_map_or (λ s. contains text_order s name.name) found false →
+    contains text_order more name.name ≡ cond (is_eq (text_order part name.name)) true (contains text_order set name.name) →
+    get text_order mid name.namespace ≡ cond (is_eq (text_order noted.namespace name.namespace)) None (get text_order old name.namespace) →
+    get text_order new name.namespace ≡ cond (is_eq (text_order key name.namespace)) (Some more) (get text_order mid name.namespace) →
+    has_name new name ≡ (same_name name noted || has_name old name)
+unfolding same_name
+name_more noted name key part found set more old mid new keyed parted found_is set_is more_is mid_is new_is =
+    ap at new_is ∙ go (same_bytes name.namespace noted.namespace) refl
   where
-    here : egress.namespace ≡ namespace → contains text_order set name ≡ cond (same_bytes egress.name name) true (in_set name old)
-    here e = holds ∙ (λ i. cond (test i) true (taken e i))
-      where
-        test : is_eq (text_order key name) ≡ same_bytes egress.name name
-        test = text_tells key name ∙ ap (λ k. same_bytes k name) keyed
+    at : Option (BTreeSet (List ℕ)) → Bool
+    at o = option_map_or (λ s. contains text_order s name.name) o false
 
-    by_space : (b : Bool) → same_bytes egress.namespace namespace ≡ b → (d : Bool) → same_bytes namespace egress.namespace ≡ d
-        → in_set name (cond b (Some set) (cond d None old)) ≡ cond (b && same_bytes egress.name name) true (in_set name old)
-    by_space true e d f = here ((bytes_decides egress.namespace namespace).0 e)
-    by_space false e false f = refl
-    by_space false e true f = absurd (let g : same_bytes egress.namespace namespace ≡ true = (bytes_decides egress.namespace namespace).1 (sym ((bytes_decides namespace egress.namespace).0 f)) in cc)
+    here : (bytes : List ℕ) → bytes ≡ noted.namespace → is_eq (text_order bytes name.namespace) ≡ same_bytes name.namespace noted.namespace
+    here bytes e = text_test bytes name.namespace ∙ ap (same_bytes name.namespace) e
+
+    or_is : (b h : Bool) → cond b true h ≡ (b || h)
+    or_is false h = refl
+    or_is true h = refl
+
+    go : (v : Bool) → same_bytes name.namespace noted.namespace ≡ v →
+        at (cond (is_eq (text_order key name.namespace)) (Some more) (get text_order mid name.namespace)) ≡ ((same_bytes name.namespace noted.namespace && same_bytes name.name noted.name) || at (get text_order old name.namespace))
+    go true e =
+        let same : name.namespace ≡ noted.namespace = (bytes_decides name.namespace noted.namespace).0 e in
+        ap (λ b. at (cond b (Some more) (get text_order mid name.namespace))) (here key keyed ∙ e)
+        ∙ more_is ∙ (λ i. cond ((text_test part name.name ∙ ap (same_bytes name.name) parted) i) true ((set_is ∙ ap at (found_is ∙ ap (get text_order old) (sym same))) i))
+        ∙ or_is (same_bytes name.name noted.name) (at (get text_order old name.namespace))
+        ∙ sym (ap (λ b. (b && same_bytes name.name noted.name) || at (get text_order old name.namespace)) e)
+    go false e =
+        ap (λ b. at (cond b (Some more) (get text_order mid name.namespace))) (here key keyed ∙ e)
+        ∙ ap at (mid_is ∙ ap (λ b. cond b None (get text_order old name.namespace)) (here noted.namespace (λ i. noted.namespace) ∙ e))
+        ∙ sym (ap (λ b. (b && same_bytes name.name noted.name) || at (get text_order old name.namespace)) e)

@@ -1,2 +1,5 @@
 pub mod Routing
 pub mod Kept
+pub mod Urls
+pub mod Partitions
+pub mod JobText

@@ -42,12 +42,9 @@ or_else None other = other
 unfoldable pub endpoint_of : Module → TypeName → Option Endpoint
 endpoint_of m kind = or_else (find (is_exact kind) m.endpoints) (find (is_wide kind) m.endpoints)
 
--- whether there is an egress of that name in that namespace
-abbrev pub is_called : List ℕ → List ℕ → TypeName → Bool
-is_called namespace name egress = same_bytes egress.namespace namespace && same_bytes egress.name name
-
-abbrev pub knows_egress : Module → List ℕ → List ℕ → Bool
-knows_egress m namespace name = list_any (is_called namespace name) m.egresses
+-- whether there is an egress of that name
+abbrev pub knows_egress : Module → TypeName → Bool
+knows_egress m name = list_any (same_name name) m.egresses
 
 -- ---- modules whose records have a way to go
 

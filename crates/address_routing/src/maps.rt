@@ -1,13 +1,13 @@
 //! Maps by name, made of lists.
-ghost use Rattle.std.specs.Prelude.{◌≡◌, ℕ, List, true, IfOk, OnOk, None, Some, find, if◌then◌else◌};
+ghost use Rattle.std.specs.Prelude.{◌≡◌, ℕ, List, false, IfOk, OnOk, Some, find, ◌||◌, if◌then◌else◌};
 ghost use Rattle.std.specs.List.{list_any};
-ghost use Rattle.std.specs.Option.{option_copied};
+ghost use Rattle.std.specs.Option.{option_copied, option_map_or};
+ghost use Rattle.std.specs.BTreeSet.{contains};
 ghost use Rattle.std.specs.BTreeMap.{get};
 ghost use Rattle.typed_values.specs.declared.name.TypeName.{TypeName};
-ghost use Rattle.std.specs.BTreeSet.{contains};
-ghost use Rattle.typed_values.specs.Sameness.{same_bytes};
-ghost use Rattle.address_routing.specs.Routing.{is_exact, is_wide, is_called};
-ghost use Rattle.address_routing.specs.Kept.{name_order, text_order, has_name, endpoint_at};
+ghost use Rattle.typed_values.specs.Sameness.{same_name};
+ghost use Rattle.address_routing.specs.Routing.{is_exact, is_wide};
+ghost use Rattle.address_routing.specs.Kept.{name_order, text_order, endpoint_at, has_name};
 
 use crate::Endpoint;
 use proto_wire::{Mem, Text, TryClone};
@@ -44,46 +44,35 @@ pub(crate) fn wide_places(alloc: Global, endpoints: &[Endpoint]) -> Mem<BTreeMap
     Ok(places)
 }
 
-/// The names of a list, by namespace.
-pub(crate) fn names_in(
-    alloc: Global,
-    names: &[TypeName],
-) -> Mem<BTreeMap<Text, BTreeSet<Text>>>
-    ensures { IfOk result (λ spaces. (namespace name : List ℕ) → has_name spaces namespace name ≡ list_any (is_called namespace name) names.now) }
+/// The names of a list, by their namespaces.
+pub(crate) fn names_in(alloc: Global, list: &[TypeName]) -> Mem<BTreeMap<Text, BTreeSet<Text>>>
+    ensures { IfOk result (λ names. (name : TypeName) → has_name names name ≡ list_any (same_name name) list.now) }
 {
-    let mut spaces = BTreeMap::new(alloc);
-    for name in names {
-        note_name(alloc, &mut spaces, name)?;
+    let mut names = BTreeMap::new(alloc);
+    for name in list {
+        note_name(alloc, &mut names, name)?;
     }
-    Ok(spaces)
+    Ok(names)
 }
 
-/// Notes a name in its namespace.
-fn note_name(
-    alloc: Global,
-    spaces: &mut BTreeMap<Text, BTreeSet<Text>>,
-    noted: &TypeName,
-) -> Mem<()>
-    ensures { OnOk result ((namespace name : List ℕ) → has_name spaces.new namespace name
-        ≡ (if is_called namespace name noted.now then true else has_name spaces.old namespace name)) }
+/// Notes a name.
+fn note_name(alloc: Global, names: &mut BTreeMap<Text, BTreeSet<Text>>, noted: &TypeName) -> Mem<()>
+    ensures { OnOk result ((name : TypeName) → has_name names.new name ≡ (same_name name noted.now || has_name names.old name)) }
 {
-    let mut names = take_names(alloc, spaces, &noted.namespace);
-    names.insert(noted.name.try_clone(alloc)?)?;
-    spaces.insert(noted.namespace.try_clone(alloc)?, names)?;
+    let key = noted.namespace.try_clone(alloc)?;
+    let name = noted.name.try_clone(alloc)?;
+    let mut set = or_empty(alloc, names.remove(&noted.namespace));
+    set.insert(name)?;
+    names.insert(key, set)?;
     Ok(())
 }
 
-/// Takes the names of a namespace out.
-fn take_names(
-    alloc: Global,
-    spaces: &mut BTreeMap<Text, BTreeSet<Text>>,
-    namespace: &Text,
-) -> BTreeSet<Text>
-    ensures taken { (name : List ℕ) → contains text_order result name ≡ has_name spaces.old namespace.now name }
-    ensures others { (other : List ℕ) → get text_order spaces.new other ≡ (if same_bytes other namespace.now then None else get text_order spaces.old other) }
+/// A set, or the empty one where there is none.
+fn or_empty(alloc: Global, found: Option<BTreeSet<Text>>) -> BTreeSet<Text>
+    ensures { (name : List ℕ) → contains text_order result name ≡ option_map_or (λ set. contains text_order set name) found false }
 {
-    match spaces.remove(namespace) {
-        Some(names) => names,
+    match found {
+        Some(set) => set,
         None => BTreeSet::new(alloc),
     }
 }
@@ -122,6 +111,20 @@ fn note_wide(
         places.insert(endpoint.pattern.namespace.try_clone(alloc)?, place)?;
     }
     Ok(())
+}
+
+/// Whether a name is noted.
+pub(crate) fn has_name(
+    names: &BTreeMap<Text, BTreeSet<Text>>,
+    namespace: &Text,
+    name: &Text,
+) -> bool
+    ensures { result ≡ has_name names.now (record { namespace = namespace.now; name = name.now }) }
+{
+    match names.get(namespace) {
+        Some(set) => set.contains(name),
+        None => false,
+    }
 }
 
 /// The endpoint that stands at a place, if there is one.

@@ -3,7 +3,7 @@ ghost use Rattle.std.specs.Prelude.{◌≡◌, ◌<◌, ◌≤◌, IsTrue, IfOk,
 ghost use Rattle.std.specs.Option.{option_copied};
 ghost use Rattle.address_routing.specs.Routing.{is_routable, endpoint_of, knows_egress, splits_in, ingress_in, ingress_of, targets_of, filled, url_of};
 
-use crate::maps::{endpoint_at, exact_places, names_in, wide_places};
+use crate::maps::{endpoint_at, exact_places, has_name, names_in, wide_places};
 use crate::{Endpoint, IngressSpec, Module};
 use proto_wire::{List, Mem, Text};
 use std::alloc::Global;
@@ -21,7 +21,7 @@ pub struct Routes {
     exact: BTreeMap<TypeName, usize>,
     /// The same, by the namespace for all names of which it is.
     wide: BTreeMap<Text, usize>,
-    /// The names of the egresses, by namespace.
+    /// The names of the egresses, by their namespaces.
     egresses: BTreeMap<Text, BTreeSet<Text>>,
 }
 
@@ -79,14 +79,11 @@ impl Routes {
         }
     }
 
-    /// Whether the module has an egress of that name in that namespace.
+    /// Whether the module has the egress of this namespace and this name.
     pub fn knows_egress(&self, namespace: &Text, name: &Text) -> bool
-        ensures { result ≡ knows_egress self.now namespace.now name.now }
+        ensures { result ≡ knows_egress self.now (record { namespace = namespace.now; name = name.now }) }
     {
-        match self.egresses.get(namespace) {
-            Some(names) => names.contains(name),
-            None => false,
-        }
+        has_name(&self.egresses, namespace, name)
     }
 
     /// The URL at which functions of a type are called: the template of its endpoint, with each `{function.name}`

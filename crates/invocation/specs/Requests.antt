@@ -1,5 +1,5 @@
 -- The request of a batch.
-use Rattle.std.specs.Prelude.{ℕ, List, length, map, Some}
+use Rattle.std.specs.Prelude.{ℕ, List, [], length, map, Some}
 use Rattle.typed_values.specs.declared.address.Address.{Address}
 use Rattle.typed_values.specs.declared.letter.Letter.{Letter}
 use Rattle.typed_values.specs.declared.cells.Cell.{Cell}

@@ -2,7 +2,7 @@
 ghost use Rattle.std.specs.Prelude.{◌≡◌, ◌++◌, map, IfOk, OnOk};
 ghost use Rattle.std.specs.List.{flat_map};
 ghost use Rattle.request_reply.specs.Flaws.{natural};
-ghost use Rattle.invocation.specs.Effects.{argument_of, change_of, letters_from, later, delays_of, egress_record, effects_of};
+ghost use Rattle.invocation.specs.Effects.{argument_of, change_of, letters_to, letters_from, later, delays_of, egress_record, effects_of};
 
 use crate::{Change, DelayChange, Effects};
 use proto_wire::{Bytes, List, Mem, Text, TryClone};
@@ -66,15 +66,29 @@ fn letters_from(
 {
     let mut letters = List::new(alloc);
     for message in messages.into_vec() {
-        if let Some(target) = message.target {
-            letters.push(Letter {
-                sender: Sender::Function(address.try_clone(alloc)?),
-                target,
-                argument: argument_of(alloc, message.argument),
-            })?;
-        }
+        add_letter(alloc, &mut letters, address, message)?;
     }
     Ok(letters)
+}
+
+/// Adds a message as a letter.
+fn add_letter(
+    alloc: Global,
+    letters: &mut List<Letter>,
+    address: &Address,
+    message: OutgoingInvocation,
+) -> Mem<()>
+    ensures { OnOk result (letters.new ≡ letters.old ++ letters_to address.now message.target (argument_of message.argument)) }
+{
+    let OutgoingInvocation { target, argument } = message;
+    match target {
+        Some(target) => letters.push(Letter {
+            sender: Sender::Function(address.try_clone(alloc)?),
+            target,
+            argument: argument_of(alloc, argument),
+        }),
+        None => Ok(()),
+    }
 }
 
 /// The moment so much later, or the last one. A number below 0 counts as 0.
@@ -98,16 +112,23 @@ fn add_delay(
 ) -> Mem<()>
     ensures { OnOk result (changes.new ≡ changes.old ++ delays_of address.now moment delayed) }
 {
-    if delayed.is_cancellation_request {
-        return changes.push(DelayChange::Cancel(delayed.cancellation_token));
+    let DelayedInvocation {
+        delay_in_ms,
+        target,
+        argument,
+        is_cancellation_request,
+        cancellation_token: token,
+    } = delayed;
+    if is_cancellation_request {
+        return changes.push(DelayChange::Cancel(token));
     }
-    match delayed.target {
+    match target {
         Some(target) => changes.push(DelayChange::Add(Delay {
             sender: address.try_clone(alloc)?,
-            due: later(moment, delayed.delay_in_ms),
+            due: later(moment, delay_in_ms),
             target,
-            token: delayed.cancellation_token,
-            argument: argument_of(alloc, delayed.argument),
+            token,
+            argument: argument_of(alloc, argument),
         })),
         None => Ok(()),
     }

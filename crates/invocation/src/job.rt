@@ -9,6 +9,7 @@ use state_cells::Cells;
 use typed_values::TypeName;
 
 /// The routes of a job and the cells of an address.
+#[derive(Drop)]
 pub(crate) struct Job<'a> {
     pub(crate) routes: &'a Routes,
     pub(crate) cells: &'a Cells,

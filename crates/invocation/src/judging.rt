@@ -20,14 +20,13 @@ pub enum Judged {
     Accept(Effects),
     /// An incomplete answer: the cells that are new, in its order.
     Register(List<CellSpec>),
-    /// None: the answer is not valid, for this first flaw.
+    /// Not valid, for this first flaw.
     Flaw(Flaw),
 }
 
 /// Judges the answer of an address to a batch of a moment, in milliseconds. `Flaw` exactly where it is not valid, with its
 /// first flaw: `request_reply::judge` says in which order they count. Nothing of the answer is copied but the address itself,
 /// which each letter, delay and egress record names.
-#[tactic(auto, unfolding(crate::specs::Judging::judgement))]
 pub fn judge(
     alloc: Global,
     answer: &[u8],
@@ -39,11 +38,26 @@ pub fn judge(
     ensures judged { IfOk result (λ judged. judged ≡ judgement routes.now cells.now address.now moment answer.now) }
     ensures fits { IfOk result (Fits cells.now) }
 {
+    judgement(alloc, answer, cells, routes, address, moment)
+}
+
+#[tactic(auto, unfolding(crate::specs::Judging::judgement))]
+fn judgement(
+    alloc: Global,
+    answer: &[u8],
+    cells: &Cells,
+    routes: &Routes,
+    address: &Address,
+    moment: u64,
+) -> Mem<Judged>
+    ensures { IfOk result (λ judged. judged ≡ judgement routes.now cells.now address.now moment answer.now) }
+{
     let job = Job { routes, cells };
     match request_reply::judge(alloc, answer, &job)? {
-        Judgement::Accept(response) => Ok(Judged::Accept(effects_of(
-            alloc, address, moment, response,
-        )?)),
+        Judgement::Accept(response) => {
+            let effects = effects_of(alloc, address, moment, response)?;
+            Ok(Judged::Accept(effects))
+        }
         Judgement::Register(specs) => Ok(Judged::Register(specs)),
         Judgement::Flaw(flaw) => Ok(Judged::Flaw(flaw)),
     }

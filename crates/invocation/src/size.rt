@@ -1,5 +1,5 @@
 //! How long a request is, by parts that are lent. No call takes memory.
-ghost use Rattle.std.specs.Prelude.{◌≡◌, ◌+◌, ℕ, length};
+ghost use Rattle.std.specs.Prelude.{◌≡◌, ◌+◌, ℕ, nat_le, length};
 ghost use Rattle.proto_wire.specs.Record.{bytes_record};
 ghost use Rattle.proto_wire.specs.Message.{capped, spelling, spelled_message};
 ghost use Rattle.typed_values.specs.declared.address.Address.{Address};
@@ -81,7 +81,9 @@ impl RequestSize {
         ensures { (target : Address) (records : ℕ) → self.old ≡ capped records →
             self.new ≡ capped (records + length (letter_record (record { sender = sender.now; target = target; argument = argument.now }))) }
     {
-        self.records = self.records.saturating_add(size_letter_from(sender, argument));
+        self.records = self
+            .records
+            .saturating_add(size_letter_from(sender, argument));
     }
 
     /// How many bytes the request's canonical spelling has, or `u64::MAX` where it has more.
@@ -90,5 +92,18 @@ impl RequestSize {
     {
         self.records
             .saturating_add(varint_size(REQUEST_TAG) + varint_size(self.records))
+    }
+
+    /// Whether the request's canonical spelling has at most so many bytes.
+    pub fn is_within(&self, limit: u64) -> bool
+        ensures { (records : ℕ) → self.now ≡ capped records → result ≡ nat_le (enclosed records) limit }
+    {
+        match self
+            .records
+            .checked_add(varint_size(REQUEST_TAG) + varint_size(self.records))
+        {
+            Some(bytes) => bytes <= limit,
+            None => false,
+        }
     }
 }

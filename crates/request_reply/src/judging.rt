@@ -76,7 +76,11 @@ fn judged_read<K: Known>(
             Some(flaw) => Ok(Judgement::Flaw(flaw)),
             None => Ok(Judgement::Accept(response)),
         },
-        FromFunction::Incomplete(context) => match declared_by(alloc, context.missing_values, known)? {
+        FromFunction::Incomplete(context) => match declared_by(
+            alloc,
+            context.missing_values,
+            known,
+        )? {
             Ok(specs) => Ok(Judgement::Register(specs)),
             Err(flaw) => Ok(Judgement::Flaw(flaw)),
         },

@@ -29,5 +29,6 @@ pub use known::Known;
 pub use proto_wire::DecodeFault;
 pub use request::{BatchInvocation, InvocationBatchRequest, PersistedValue, ToFunction};
 pub use whole::{
-    decode_from, decode_to, encode_from, encode_to, size_from, size_letter, size_letter_from, size_to,
+    decode_from, decode_to, encode_from, encode_to, size_from, size_letter, size_letter_from,
+    size_to,
 };
