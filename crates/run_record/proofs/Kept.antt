@@ -45,7 +45,7 @@ sender_itself (Function a) = (eq_by_cmp_equiv addresses_total).refl a
 name_test : (x y : TypeName) → is_eq (name_order x y) ≡ same_name x y
 name_test x y = same_from_decides (is_eq (name_order x y)) (same_name x y) (tells_apart exact_names x y, λ e. subst (λ z. is_eq (name_order x z) ≡ true) e ((eq_by_cmp_equiv names_total).refl x)) (same_name-Decides x y)
 
-address_test : (x y : Address) → is_eq (address_order x y) ≡ same_address x y
+pub address_test : (x y : Address) → is_eq (address_order x y) ≡ same_address x y
 address_test x y = same_from_decides (is_eq (address_order x y)) (same_address x y) (tells_apart exact_addresses x y, λ e. subst (λ z. is_eq (address_order x z) ≡ true) e ((eq_by_cmp_equiv addresses_total).refl x)) (same_address-Decides x y)
 
 sender_test : (x y : Sender) → is_eq (sender_order x y) ≡ same_sender x y

@@ -12,3 +12,4 @@ pub mod LawsOfMail
 pub mod LawsOfEgress
 pub mod Laws
 pub mod Written
+pub mod Changing

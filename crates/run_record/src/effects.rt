@@ -111,9 +111,13 @@ pub(crate) fn register(
         (declared reply.now specs ((state_of machine.old).own (Function reply.now.address))) (state_of machine.old)) }
     ensures err { OnErr result (state_of machine.new ≡ state_of machine.old) }
 {
-    machine
-        .parts
-        .register(alloc, &reply.address, specs, reply.moment)
+    let address = &reply.address;
+    machine.parts.reserve(alloc, address, 0)?;
+    if let Err(refused) = machine.parts.register(address, specs, reply.moment) {
+        machine.parts.forget_nothing(address);
+        return Err(refused);
+    }
+    Ok(())
 }
 
 /// A copy of the delayed letter of an address that is due at a moment, if one is.

@@ -1,5 +1,5 @@
 //! What each address has of its own.
-ghost use Rattle.std.specs.Prelude.{◌≡◌, ◌≤◌, ◌∷◌, [], ℕ, map, length, IsTrue, OnOk, OnErr, option_copied};
+ghost use Rattle.std.specs.Prelude.{◌≡◌, ◌≤◌, ◌∷◌, [], ℕ, map, length, IsSome, IsTrue, OnOk, OnErr, option_copied};
 ghost use Rattle.std.specs.BTreeMap.{get};
 ghost use Rattle.typed_values.specs.declared.address.Address.{Address};
 ghost use Rattle.keyed_queues.specs.Keys.{address_order};
@@ -81,26 +81,23 @@ impl Parts {
         }
     }
 
-    /// What a registration of an address does at a moment. An `Err` changes nothing of what any has.
+    /// What a registration of an address that has a part does at a moment. An `Err` changes nothing of what any has.
     pub(crate) fn register(
         &mut self,
-        alloc: Global,
         address: &Address,
         specs: List<CellSpec>,
         moment: u64,
     ) -> Mem<()>
-        requires { AreNew (own_in self.old address.now).cells specs }
+        requires there { IsSome (get address_order self.old.parts address.now) }
+        requires new { AreNew (own_in self.old address.now).cells specs }
         ensures ok { OnOk result (SetsAt (own_in self.old) (own_in self.new) address.now
             (after_registration moment specs (own_in self.old address.now))) }
         ensures err { OnErr result (SetsAt (own_in self.old) (own_in self.new) address.now (own_in self.old address.now)) }
     {
-        if let Some(part) = self.parts.get_mut(address) {
-            return part.register(specs, moment);
+        match self.parts.get_mut(address) {
+            Some(part) => part.register(specs, moment),
+            None => unreachable!(),
         }
-        let mut part = Part::new(alloc)?;
-        part.register(specs, moment)?;
-        self.parts.insert(address.try_clone(alloc)?, part)?;
-        Ok(())
     }
 
     /// Drops the delay of an address that is due at a moment, if one is.

@@ -41,7 +41,7 @@ fn has_request(
         return Ok(false);
     }
     a_request_is_its_head_and_its_letters();
-    let head = RequestSize::of(&reply.address, &part.cells, reply.moment)?;
+    let head = RequestSize::of(&reply.address, &part.cells, reply.moment);
     match with_picked(alloc, &machine.mail, &reply.address, reply.picks.as_slice(), head)? {
         Some(size) => Ok(size.is_within(endpoint.max_bytes)),
         None => Ok(false),

@@ -27,6 +27,6 @@ returns-in-Some-2 c =
     by_size c.args.routes.now c.args.part.now.cells (λ sender. mail_of c.args.machine.now.mail sender c.args.reply.now.address) c.args.reply.now.address c.args.reply.now.moment c.args.reply.now.picks c.in-Some.endpoint.now c.in-Some-2.size c.is_within.result
     c.a_request_is_its_head_and_its_letters.ensures c.in-Some.ensures
     (ap (λ n. nat_lt 0 n && nat_le n c.in-Some.endpoint.now.max_letters) (sym c.len.ensures) ∙ sym c.is_count-is_count.ensures ∙ c.if-not-is_count.false)
-    (sym c.in-Some-2.is ∙ c.in_ok-size.ensures (head_size c.args.reply.now.address c.args.part.now.cells c.args.reply.now.moment) c.in_ok-head.ensures
+    (sym c.in-Some-2.is ∙ c.in_ok-size.ensures (head_size c.args.reply.now.address c.args.part.now.cells c.args.reply.now.moment) c.of-head.ensures
     ∙ ap (λ picks. option_map (λ (letters : List Letter). capped (head_size c.args.reply.now.address c.args.part.now.cells c.args.reply.now.moment + records_size letters)) (picked c.args.reply.now.address (λ (sender : Sender). mail_of c.args.machine.now.mail sender c.args.reply.now.address) picks)) c.as_slice.ensures)
     c.is_within.ensures
