@@ -167,6 +167,10 @@ own_taken split taken taken' parts act counts is (Split n) = go (nat_eq split n)
         subst (λ k. as_split (get_or taken' k 0) ≡ left act (own_by taken parts (Split k))) same (ap as_split counts.here ∙ sym is)
     go false e = ap as_split (counts.others n (λ same. true≢false (sym (eq-eqb split n (sym same)) ∙ e)))
 
+-- counts that another vector keeps, and one more
+pub counted_from : (split : ℕ) (taken room taken' : List ℕ) → ((n : ℕ) → get_or room n 0 ≡ get_or taken n 0) → CountsOne split (λ (n : ℕ). get_or room n 0) (λ (n : ℕ). get_or taken' n 0) → CountsOne split (λ (n : ℕ). get_or taken n 0) (λ (n : ℕ). get_or taken' n 0)
+counted_from split taken room taken' same counts = record { here = counts.here ∙ ap (λ n. n + 1) (same split); others = λ other apart. counts.others other apart ∙ same other }
+
 not_split : (address : Address) (n : ℕ) → same_sender (Function address) (Split n) ≡ false
 unfolding same_sender
 not_split address n = refl
