@@ -1,5 +1,6 @@
 -- The part of one address is changed.
 use Rattle.std.proofs.Common.{◌≡◌, ◌∙◌, sym, ap, refl, Bool, true, false, true≢false, cond, Option, Some, None}
+use Rattle.std.specs.Prelude.{IsSome, ◌≤◌}
 use Rattle.std.specs.Option.{option_map_or}
 use Rattle.std.specs.BTreeMap.{get, is_at}
 use Rattle.std.proofs.lemmas.Bool.{false_from_ne_true}
@@ -11,7 +12,7 @@ use Rattle.keyed_queues.specs.Queues.{SetsAt}
 use Rattle.run_record.specs.declared.part.Part.{Part}
 use Rattle.run_record.specs.declared.parts.Parts.{Parts}
 use Rattle.run_record.specs.Machine.{Own, nothing}
-use Rattle.run_record.specs.StateOf.{own_of, own_in}
+use Rattle.run_record.specs.StateOf.{own_of, own_in, HasPart}
 use Rattle.run_record.proofs.Kept.{address_test}
 
 abbrev own_at : Option Part → Own
@@ -39,3 +40,7 @@ sets_same before after a sets b = by (same_address a b) refl
     by : (t : Bool) → same_address a b ≡ t → own_in after b ≡ own_in before b
     by true e = ap (own_in after) (sym ((same_address-Decides a b).0 e)) ∙ sets.here ∙ ap (own_in before) ((same_address-Decides a b).0 e)
     by false e = sets.others b (λ same. true≢false (sym ((same_address-Decides a b).1 (sym same)) ∙ e))
+
+pub there_is : (P : Part → Type 0) (o : Option Part) → HasPart P o → IsSome o
+there_is P None has = absurd has
+there_is P (Some part) has = refl

@@ -6,8 +6,15 @@ use Rattle.invocation.specs.Laws.{AreNew}
 use Rattle.run_record.specs.Machine.{Own, declared, arguments_of}
 use Rattle.run_record.specs.StateOf.{state_of, mail_of, egress_in, own_in, after_registration}
 use Rattle.run_record.proofs.Kept.{own_kept, own_changed, sets_between, unpicked_none, posted_none, given_none, same_state, state_acted}
-use Rattle.run_record.proofs.Changing.{sets_same}
+use Rattle.std.specs.BTreeMap.{get}
+use Rattle.std.specs.Prelude.{◌≤◌}
+use Rattle.keyed_queues.specs.Keys.{address_order}
+use Rattle.run_record.specs.declared.part.Part.{Part}
+use Rattle.run_record.proofs.Changing.{sets_same, there_is}
 use Rattle.run_record.proofs.effects.register.Goals as goal
+
+pub register-requires-clause-there : goal.register-requires-clause-there
+register-requires-clause-there c = there_is (λ (part : Part). 0 ≤ part.delays.spare) (get address_order c.reserve.new.self.parts c.args.reply.now.address) c.in_ok-reserve.ensures.room
 
 pub register-requires-clause-new : goal.register-requires-clause-new
 unfolding state_of
