@@ -5,7 +5,11 @@ use crate::replaying::replayed;
 use crate::stepping::stepped;
 use row_text::Failure;
 use run_record::{
-    each_record_is_taken_once, letters_are_delivered_in_order, records_are_taken_in_order,
+    a_delayed_letter_is_not_sent_once_cancelled, a_delayed_letter_is_sent_in_time,
+    a_delayed_letter_is_sent_once, cells_are_those_of_accepted_answers,
+    delays_are_those_of_accepted_answers, each_record_is_taken_once, egress_is_that_of_the_answers,
+    letters_are_delivered_in_order, moments_never_fall, only_valid_answers_count,
+    records_are_taken_in_order, the_value_written_last_is_carried,
 };
 use std::alloc::Global;
 
@@ -28,5 +32,14 @@ fn laws(alloc: Global) -> Result<String, Failure> {
     each_record_is_taken_once();
     records_are_taken_in_order();
     letters_are_delivered_in_order();
+    egress_is_that_of_the_answers();
+    cells_are_those_of_accepted_answers();
+    the_value_written_last_is_carried();
+    delays_are_those_of_accepted_answers();
+    a_delayed_letter_is_sent_once();
+    a_delayed_letter_is_sent_in_time();
+    a_delayed_letter_is_not_sent_once_cancelled();
+    moments_never_fall();
+    only_valid_answers_count();
     Ok(String::from_str(alloc, "  called\n")?)
 }

@@ -1,6 +1,7 @@
 //! The letters that a record of an ingress becomes.
 ghost use Rattle.std.specs.Prelude.{◌≡◌, ◌<◌, IfOk, map};
 ghost use Rattle.address_routing.specs.Routing.{splits_in};
+ghost use Rattle.request_reply.specs.Letters.{caller_of};
 ghost use Rattle.run_record.specs.Letters.{letter_of, letters_of};
 
 use address_routing::Routes;
@@ -70,4 +71,14 @@ fn letters_to(
         letters.push(letter_to(alloc, split, value_type, taken, target)?)?;
     }
     Ok(letters)
+}
+
+/// The caller that a request names of a letter: its sender, where that is a function, and none where it is a split.
+pub fn caller_of(alloc: Global, sender: &Sender) -> Mem<Option<Address>>
+    ensures { IfOk result (λ caller. caller ≡ caller_of sender.now) }
+{
+    match sender {
+        Sender::Split(_) => Ok(None),
+        Sender::Function(caller) => Ok(Some(caller.try_clone(alloc)?)),
+    }
 }

@@ -5,27 +5,27 @@ mod applying;
 mod effects;
 mod egress;
 mod entry;
-mod key;
 mod laws;
 mod letters;
 mod machine;
 mod merging;
-mod numbers;
+mod part;
+mod parts;
 mod picking;
 mod placing;
-mod queue;
 mod replaying;
 mod requesting;
-mod shelf;
-mod shelves;
 
 pub use egress::{put_answer_text, put_egress_line, put_egress_text};
 pub use entry::{Entry, Reply, Step};
 pub use laws::{
-    each_record_is_taken_once, letters_are_delivered_in_order, records_are_taken_in_order,
+    a_delayed_letter_is_not_sent_once_cancelled, a_delayed_letter_is_sent_in_time,
+    a_delayed_letter_is_sent_once, cells_are_those_of_accepted_answers,
+    delays_are_those_of_accepted_answers, each_record_is_taken_once, egress_is_that_of_the_answers,
+    letters_are_delivered_in_order, moments_never_fall, only_valid_answers_count,
+    records_are_taken_in_order, the_value_written_last_is_carried,
 };
-pub use letters::letters_of;
+pub use letters::{caller_of, letters_of};
 pub use machine::Machine;
 pub use merging::merge;
-pub use picking::caller_of;
 pub use replaying::{ReplayFault, Replayed, replay};

@@ -67,7 +67,7 @@ fn replay_step<I: Ingress>(
             Ok(found) => found,
             Err(fault) => return Err(fault_of(fault)),
         },
-        Step::Batch(_) => None,
+        Step::Batch(_) | Step::Register(_) | Step::Due { .. } => None,
     };
     Ok(machine.apply(alloc, entry, found.as_ref(), routes)?)
 }

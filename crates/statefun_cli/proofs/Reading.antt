@@ -12,14 +12,14 @@ use Rattle.address_routing.specs.declared.module.Module.{Module}
 use Rattle.run_record.specs.declared.entry.Entry.{Entry}
 use Rattle.run_record.specs.Egress.{egress_of, egress_text, records_of_step}
 use Rattle.statefun_cli.specs.declared.end.PlainEnd.{PlainEnd}
-use Rattle.statefun_cli.specs.declared.end.PlainEnd.TheVariants.{Done, Usage, TurnsSpent, EndpointFailed, IngressFault, LinkFault, SinkFault, OutOfMemory}
+use Rattle.statefun_cli.specs.declared.end.PlainEnd.TheVariants.{Done, Usage, TurnsSpent, EndpointFailed, NotServed, IngressFault, LinkFault, SinkFault, OutOfMemory}
 use Rattle.statefun_cli.specs.Turns.{Heard, Work, Going, Ended, Turned, take_entry, work_read, status_at, asked_turn, turned}
 use Rattle.statefun_cli.specs.Progress.{IsFront, IsTextOf, IsTurnText, IsTurnEnd, IsEndOf, status_of}
 use Rattle.statefun_cli.specs.Making.{AreShort, IsHeard, IsAsked, IsTurnMade}
 use Rattle.statefun_cli.proofs.Serving.{no_polls}
 
 -- a take adds nothing to the egress
-nothing_taken : (m : Module) (turn : ℕ) (entries : List Entry) → egress_of m (entries ++ take_entry turn ∷ []) ≡ egress_of m entries
+nothing_taken : (m : Module) (turn : ℕ) (entries : List Entry) → egress_of (entries ++ take_entry turn ∷ []) ≡ egress_of entries
 unfolding egress_of
 nothing_taken m turn entries = flat_map-append (λ (entry : Entry). records_of_step m entry.step) entries (take_entry turn ∷ []) ∙ append-nil (flat_map (λ (entry : Entry). records_of_step m entry.step) entries)
 
@@ -35,6 +35,7 @@ read_front m turn (Some taken) work = (take_entry turn ∷ [], refl)
 done_is : (taken : ℕ) (b : Bool) (t : Turned) (entries : List Entry) (end : PlainEnd) → t.status ≡ Ended end → cond b (Ended (Done taken)) Going ≡ Ended end → entries ≡ t.work.entries → IsEndOf t entries end
 done_is taken b t entries (Done n) s e same = (s, same)
 done_is taken b t entries (EndpointFailed address reasons) s e same = (s, same)
+done_is taken b t entries (NotServed address) s e same = (s, same)
 done_is taken true t entries (Usage word) s e same = absurd cc
 done_is taken false t entries (Usage word) s e same = absurd cc
 done_is taken true t entries (TurnsSpent n) s e same = absurd cc
@@ -65,13 +66,14 @@ text_idle m text entries (Some (Done taken)) e = e
 text_idle m text entries (Some (Usage word)) e = e
 text_idle m text entries (Some (TurnsSpent taken)) e = e
 text_idle m text entries (Some (EndpointFailed address reasons)) e = e
+text_idle m text entries (Some (NotServed address)) e = e
 text_idle m text entries (Some IngressFault) e = e
 text_idle m text entries (Some LinkFault) e = e
 text_idle m text entries (Some SinkFault) e = e
 text_idle m text entries (Some OutOfMemory) e = tt
 
 pub text_taken : (m : Module) (turn : ℕ) (read : Option IngressRecord) (text text' : List ℕ) (old new : Work) → text' ≡ text → new ≡ work_read m turn read old → IsTextOf m text old.entries → IsTextOf m text' new.entries
-text_taken m turn read text text' old new t w e = t ∙ text_read m turn read text old e ∙ ap (λ (x : Work). egress_text (egress_of m x.entries)) (sym w)
+text_taken m turn read text text' old new t w e = t ∙ text_read m turn read text old e ∙ ap (λ (x : Work). egress_text (egress_of x.entries)) (sym w)
 
 module _ (m : Module) (patience turn : ℕ) (read : Option IngressRecord) (old new : Work) (before after : Option (List LinkEvent)) (exchanges : List Exchange) where
   quiet : Heard

@@ -14,7 +14,7 @@ use Rattle.run_record.specs.Backed.{AreBacked}
 use Rattle.statefun_cli.specs.Making.{LegsBelow}
 use Rattle.run_record.proofs.LawsOfEgress.{egress_of-first}
 use Rattle.statefun_cli.specs.declared.end.PlainEnd.{PlainEnd}
-use Rattle.statefun_cli.specs.declared.end.PlainEnd.TheVariants.{Done, Usage, TurnsSpent, EndpointFailed, IngressFault, LinkFault, SinkFault, OutOfMemory}
+use Rattle.statefun_cli.specs.declared.end.PlainEnd.TheVariants.{Done, Usage, TurnsSpent, EndpointFailed, NotServed, IngressFault, LinkFault, SinkFault, OutOfMemory}
 use Rattle.statefun_cli.specs.Words.{plain_module, IsPlain}
 use Rattle.statefun_cli.specs.Turns.{Turned, turns_of}
 use Rattle.statefun_cli.specs.Progress.{IsFront}
@@ -33,6 +33,7 @@ entries_front t turns made entries (Done taken) e = whole_front entries t.work.e
 entries_front t turns made entries (Usage word) e = absurd e
 entries_front t turns made entries (TurnsSpent taken) e = whole_front entries t.work.entries e.3
 entries_front t turns made entries (EndpointFailed address reasons) e = whole_front entries t.work.entries e.1
+entries_front t turns made entries (NotServed address) e = whole_front entries t.work.entries e.1
 entries_front t turns made entries IngressFault e = e
 entries_front t turns made entries LinkFault e = e
 entries_front t turns made entries SinkFault e = e

@@ -23,7 +23,7 @@ use Rattle.request_reply.specs.Valid.{verdict}
 use Rattle.address_routing.specs.declared.module.Module.{Module}
 use Rattle.run_record.specs.declared.entry.Entry.{Entry}
 use Rattle.statefun_cli.specs.declared.end.PlainEnd.{PlainEnd}
-use Rattle.statefun_cli.specs.declared.end.PlainEnd.TheVariants.{Done, Usage, TurnsSpent, EndpointFailed, IngressFault, LinkFault, SinkFault, OutOfMemory}
+use Rattle.statefun_cli.specs.declared.end.PlainEnd.TheVariants.{Done, Usage, TurnsSpent, EndpointFailed, NotServed, IngressFault, LinkFault, SinkFault, OutOfMemory}
 use Rattle.statefun_cli.specs.Turns.{Heard, Work, Status, Going, Cut, Ended, Turned, Fate, Open, TooLate, Told, call_in, fate_of, work_read, status_at, judged_turn, fated_turn, asked_turn, start_of, turned, behind, go_on, turns_from, turns_of, no_work, records_heard}
 use Rattle.statefun_cli.specs.Polling.{IsOwnAnswer}
 use Rattle.sf_outside.specs.declared.fault.Fault.{Fault}
@@ -294,6 +294,7 @@ end_behind events t turns made entries (Done taken) e = e
 end_behind events t turns made entries (Usage word) e = absurd e
 end_behind events t turns made entries (TurnsSpent taken) e = absurd e
 end_behind events t turns made entries (EndpointFailed address reasons) e = e
+end_behind events t turns made entries (NotServed address) e = e
 end_behind events t turns made entries IngressFault e = e
 end_behind events t turns made entries LinkFault e = e
 end_behind events t turns made entries SinkFault e = e
@@ -305,6 +306,7 @@ done_read m patience turn heard work entries (Done taken) e d = turned-done m pa
 done_read m patience turn heard work entries (Usage word) e d = absurd cc
 done_read m patience turn heard work entries (TurnsSpent taken) e d = absurd cc
 done_read m patience turn heard work entries (EndpointFailed address reasons) e d = absurd cc
+done_read m patience turn heard work entries (NotServed address) e d = absurd cc
 done_read m patience turn heard work entries IngressFault e d = absurd cc
 done_read m patience turn heard work entries LinkFault e d = absurd cc
 done_read m patience turn heard work entries SinkFault e d = absurd cc
@@ -361,7 +363,7 @@ ends_spent m patience turns made lists before after exchanges work e so =
 -- a run that has done nothing has no text
 pub text_none : (m : Module) (text : List ℕ) (work : Work) → text ≡ [] → work ≡ no_work → IsTextOf m text work.entries
 unfolding egress_of egress_text
-text_none m text work e w = e ∙ ap (λ (x : Work). egress_text (egress_of m x.entries)) (sym w)
+text_none m text work e w = e ∙ ap (λ (x : Work). egress_text (egress_of x.entries)) (sym w)
 
 pub text_kept : (m : Module) (text : List ℕ) (entries : List Entry) → IsTurnText m text entries None → IsTextOf m text entries
 text_kept m text entries e = e
@@ -371,6 +373,7 @@ no_sink_from (Done taken) h = tt
 no_sink_from (Usage word) h = tt
 no_sink_from (TurnsSpent taken) h = tt
 no_sink_from (EndpointFailed address reasons) h = tt
+no_sink_from (NotServed address) h = tt
 no_sink_from IngressFault h = tt
 no_sink_from LinkFault h = tt
 no_sink_from SinkFault h = absurd h

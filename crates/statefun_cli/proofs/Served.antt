@@ -16,13 +16,14 @@ use Rattle.request_reply.specs.declared.judging.Judged.TheVariants.{Accept}
 use Rattle.address_routing.specs.declared.module.Module.{Module}
 use Rattle.run_record.specs.declared.entry.Entry.{Entry}
 use Rattle.statefun_cli.specs.declared.end.PlainEnd.{PlainEnd}
-use Rattle.statefun_cli.specs.declared.end.PlainEnd.TheVariants.{Done, Usage, TurnsSpent, EndpointFailed, IngressFault, LinkFault, SinkFault, OutOfMemory}
+use Rattle.statefun_cli.specs.declared.end.PlainEnd.TheVariants.{Done, Usage, TurnsSpent, EndpointFailed, NotServed, IngressFault, LinkFault, SinkFault, OutOfMemory}
 use Rattle.statefun_cli.specs.Turns.{Heard, Work, Status, Going, Cut, Ended, Turned, call_in, fate_by, fate_of, work_read, start_of, status_at, judged_turn, fated_turn, asked_turn, turned, go_on, turns_from, turns_of, no_work}
 use Rattle.statefun_cli.specs.Plain.{Counts, IsTold, IsSinkCauseOf, IsServed, AreServed, IsComplete, IsFaultCause, IsPlainRun, IsCompleteRun}
 use Rattle.statefun_cli.specs.Running.{IsRunEnd, IsIngressCauseOf, IsLinkCauseOf}
 
 abbrev Fails : Status → Type 0
 Fails s = (address : Address) × (reasons : List Reason) × (s ≡ Ended (EndpointFailed address reasons))
+Fails s = (address : Address) × (reasons : List Reason) × (s ≡ Ended (NotServed address))
 
 end_is : (b : Bool) (taken : ℕ) → Fails (cond b (Ended (Done taken)) Going) → ⊥
 end_is true taken f = let e = f.2 in cc
@@ -107,6 +108,7 @@ told_cause written written' text turns counts counts' told OutOfMemory t i l = t
 told_cause written written' text turns counts counts' told SinkFault t i l = tt
 told_cause written written' text turns counts counts' told (Usage word) t i l = tt
 told_cause written written' text turns counts counts' told (EndpointFailed address reasons) t i l = tt
+told_cause written written' text turns counts counts' told (NotServed address) t i l = tt
 told_cause written written' text turns counts counts' told IngressFault t i l = (subst (IsIngressCauseOf counts.ingress_faults counts'.ingress_faults) (sym t.0) i).1
 told_cause written written' text turns counts counts' told LinkFault t i l = (subst (IsLinkCauseOf counts.link_faults counts'.link_faults) (sym t.0) l).1
 

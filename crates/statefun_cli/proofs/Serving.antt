@@ -21,7 +21,7 @@ use Rattle.request_reply.specs.Valid.{verdict}
 use Rattle.address_routing.specs.declared.module.Module.{Module}
 use Rattle.run_record.specs.declared.entry.Entry.{Entry}
 use Rattle.statefun_cli.specs.declared.end.PlainEnd.{PlainEnd}
-use Rattle.statefun_cli.specs.declared.end.PlainEnd.TheVariants.{Done, Usage, TurnsSpent, EndpointFailed, IngressFault, LinkFault, SinkFault, OutOfMemory}
+use Rattle.statefun_cli.specs.declared.end.PlainEnd.TheVariants.{Done, Usage, TurnsSpent, EndpointFailed, NotServed, IngressFault, LinkFault, SinkFault, OutOfMemory}
 use Rattle.statefun_cli.specs.Turns.{Heard, Work, Turned, Fate, Open, TooLate, Told, call_in, own_outcome, fate_by, fate_of, AreItsPolls, start_of, request_for, judged_turn, fated_turn, asked_turn}
 use Rattle.statefun_cli.specs.Polling.{IsWaited, IsOwnAnswer, IsFateOf}
 use Rattle.statefun_cli.specs.Progress.{IsFront, IsTurnEnd, IsCalm, fate_told}
@@ -32,6 +32,7 @@ pub calm_own : (end : Option PlainEnd) → IsCalm end → IsTurnsOwn end
 calm_own None h = tt
 calm_own (Some (Done taken)) h = tt
 calm_own (Some (EndpointFailed address reasons)) h = tt
+calm_own (Some (NotServed address)) h = tt
 calm_own (Some OutOfMemory) h = tt
 calm_own (Some (Usage word)) h = absurd h
 calm_own (Some (TurnsSpent taken)) h = absurd h

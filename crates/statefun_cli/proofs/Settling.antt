@@ -18,7 +18,7 @@ use Rattle.address_routing.specs.declared.module.Module.{Module}
 use Rattle.run_record.specs.declared.entry.Entry.{Entry}
 use Rattle.run_record.specs.Egress.{egress_of, egress_text, egress_line, egress_record, records_of_step, records_judged}
 use Rattle.statefun_cli.specs.declared.end.PlainEnd.{PlainEnd}
-use Rattle.statefun_cli.specs.declared.end.PlainEnd.TheVariants.{Done, Usage, TurnsSpent, EndpointFailed, IngressFault, LinkFault, SinkFault, OutOfMemory}
+use Rattle.statefun_cli.specs.declared.end.PlainEnd.TheVariants.{Done, Usage, TurnsSpent, EndpointFailed, NotServed, IngressFault, LinkFault, SinkFault, OutOfMemory}
 use Rattle.statefun_cli.specs.Turns.{Work, Fate, Open, TooLate, Told, fated_turn, judged_turn, batch_entry}
 use Rattle.statefun_cli.specs.Progress.{IsFront, IsTextOf, UnlessMemory, fate_told}
 
@@ -52,7 +52,7 @@ text_served m turn read sender target answer response text text' entries entries
     let records = λ (entry : Entry). records_of_step m entry.step in
     let batch = batch_entry turn read sender target answer in
     let one : flat_map records (batch ∷ []) ≡ map (egress_record target) response.outgoing_egresses = append-nil (records_of_step m batch.step) ∙ ap (records_judged target) v in
-    let all : egress_of m entries' ≡ egress_of m entries ++ map (egress_record target) response.outgoing_egresses =
+    let all : egress_of entries' ≡ egress_of entries ++ map (egress_record target) response.outgoing_egresses =
     ap (egress_of m) n ∙ flat_map-append records entries (batch ∷ []) ∙ ap (λ (x : List _). flat_map records entries ++ x) one in
     t ∙ ap (λ (x : List ℕ). x ++ flat_map egress_line (map (egress_record target) response.outgoing_egresses)) e
     ∙ sym (flat_map-append egress_line (flat_map records entries) (map (egress_record target) response.outgoing_egresses))
@@ -65,6 +65,7 @@ unless_memory (Some (Done taken)) f p q = f p q
 unless_memory (Some (Usage word)) f p q = f p q
 unless_memory (Some (TurnsSpent taken)) f p q = f p q
 unless_memory (Some (EndpointFailed address reasons)) f p q = f p q
+unless_memory (Some (NotServed address)) f p q = f p q
 unless_memory (Some IngressFault) f p q = f p q
 unless_memory (Some LinkFault) f p q = f p q
 unless_memory (Some SinkFault) f p q = f p q

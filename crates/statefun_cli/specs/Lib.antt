@@ -1,3 +1,4 @@
+pub mod PlainAnswers
 pub mod Turns
 pub mod Polling
 pub mod Progress

@@ -14,6 +14,7 @@ mod input;
 mod line;
 mod message_lines;
 mod output;
+mod plain_answer;
 mod polling;
 mod progress;
 mod run;
