@@ -60,7 +60,8 @@ type_of name cells = type_in (found name cells)
 
 -- a value of another type than its cell's, or one of more than 1,048,576 bytes
 abbrev pub value_flaw : List ℕ → TypedValue → Option FlawKind
-value_flaw typename value = if same_bytes value.typename typename then (if nat_lt 1048576 (length value.value) then Some TooLarge else None) else Some TypeDiffers
+value_flaw typename value =
+    if same_bytes value.typename typename then (if nat_lt 1048576 (length value.value) then Some TooLarge else None) else Some TypeDiffers
 
 -- only a value that is there can be at fault
 abbrev pub set_flaw : List ℕ → Option TypedValue → Option FlawKind

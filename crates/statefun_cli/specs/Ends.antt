@@ -9,7 +9,8 @@ use Rattle.request_reply.specs.declared.flaw.Reason.{Reason}
 use Rattle.request_reply.specs.declared.flaw.Reason.TheVariants.{Lost, Late, Refused}
 use Rattle.typed_values.specs.Escape.{address_text}
 use Rattle.statefun_cli.specs.declared.end.PlainEnd.{PlainEnd}
-use Rattle.statefun_cli.specs.declared.end.PlainEnd.TheVariants.{Done, Usage, TurnsSpent, EndpointFailed, NotServed, IngressFault, LinkFault, SinkFault, OutOfMemory}
+use Rattle.statefun_cli.specs.declared.end.PlainEnd.TheVariants.{Done, Usage, TurnsSpent, EndpointFailed}
+use Rattle.statefun_cli.specs.declared.end.PlainEnd.TheVariants.{NotServed, IngressFault, LinkFault, SinkFault, OutOfMemory}
 
 abbrev pub status_of : PlainEnd → ℕ
 status_of (Done taken) = 0

@@ -9,7 +9,8 @@ use Rattle.address_routing.specs.declared.module.Module.{Module}
 use Rattle.run_record.specs.declared.entry.Entry.{Entry}
 use Rattle.run_record.specs.Egress.{egress_of, egress_text}
 use Rattle.statefun_cli.specs.declared.end.PlainEnd.{PlainEnd}
-use Rattle.statefun_cli.specs.declared.end.PlainEnd.TheVariants.{Done, Usage, TurnsSpent, EndpointFailed, IngressFault, LinkFault, SinkFault, OutOfMemory, NotServed}
+use Rattle.statefun_cli.specs.declared.end.PlainEnd.TheVariants.{Done, Usage, TurnsSpent, EndpointFailed}
+use Rattle.statefun_cli.specs.declared.end.PlainEnd.TheVariants.{IngressFault, LinkFault, SinkFault, OutOfMemory, NotServed}
 use Rattle.statefun_cli.specs.declared.progress.Progress.{Progress}
 use Rattle.statefun_cli.specs.Turns.{Work, Turned, Status, Going, Ended, Fate, TooLate, Told}
 

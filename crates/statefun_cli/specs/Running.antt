@@ -11,7 +11,8 @@ use Rattle.sf_outside.specs.Splits.{Lists, split_of}
 use Rattle.address_routing.specs.declared.module.Module.{Module}
 use Rattle.run_record.specs.declared.entry.Entry.{Entry}
 use Rattle.statefun_cli.specs.declared.end.PlainEnd.{PlainEnd}
-use Rattle.statefun_cli.specs.declared.end.PlainEnd.TheVariants.{Done, Usage, TurnsSpent, EndpointFailed, NotServed, IngressFault, LinkFault, SinkFault, OutOfMemory}
+use Rattle.statefun_cli.specs.declared.end.PlainEnd.TheVariants.{Done, Usage, TurnsSpent, EndpointFailed}
+use Rattle.statefun_cli.specs.declared.end.PlainEnd.TheVariants.{NotServed, IngressFault, LinkFault, SinkFault, OutOfMemory}
 use Rattle.statefun_cli.specs.Turns.{Heard, Turned, Going, call_in, own_outcome, AreItsPolls, turns_of, records_heard}
 use Rattle.statefun_cli.specs.Polling.{IsOwnAnswer}
 use Rattle.statefun_cli.specs.Making.{AreShort}

@@ -148,7 +148,9 @@ impl Progress {
                 match plain_answer(alloc, routes, &target, answer.as_slice()) {
                     Err(_) => return Some(PlainEnd::OutOfMemory),
                     Ok(PlainAnswer::Refused(flaw)) => Reason::Refused { answer, flaw },
-                    Ok(PlainAnswer::TooMuch) => return Some(PlainEnd::NotServed { address: target }),
+                    Ok(PlainAnswer::TooMuch) => return Some(PlainEnd::NotServed {
+                        address: target,
+                    }),
                     Ok(PlainAnswer::Served(records)) => {
                         return self.served(alloc, turn, read, sender, target, answer, records);
                     }
@@ -182,7 +184,14 @@ impl Progress {
             return Some(PlainEnd::OutOfMemory);
         };
         if self
-            .accept(turn, read, List::of(picks), target, answer, records.as_slice())
+            .accept(
+                turn,
+                read,
+                List::of(picks),
+                target,
+                answer,
+                records.as_slice(),
+            )
             .is_err()
         {
             return Some(PlainEnd::OutOfMemory);
