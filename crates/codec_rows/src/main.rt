@@ -1,9 +1,11 @@
 //! The program `codec_rows`: reads rows from standard input, decodes and encodes what they spell, and prints each row with what came of it.
 #![tactic(auto)]
 
+mod answer_job;
 mod container_rows;
 mod judge_rows;
 mod pieces;
+mod request_rows;
 mod rows;
 mod stored_rows;
 mod told;

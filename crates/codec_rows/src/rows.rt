@@ -14,9 +14,11 @@
 //! | `to BYTES`, `from BYTES` | the canonical spelling and its size, or the fault; whether all ways to cut the bytes say the same |
 //! | `limit NUMBER to\|from BYTES` | how many bytes a feeder takes one by one, what it then holds, and what the bytes are as pieces |
 //! | `size BYTES` | the size of a letter in a request |
-//! | `judge BYTES` | `accept`, or the flaw |
+//! | `judge BYTES`, `judge CELLS \| BYTES` | what the answer of an address with such cells does, or its flaw |
+//! | `request MOMENT \| CELLS \| BYTES \| BYTES ..` | the request with such letters, and its sizes |
 use crate::container_rows::{appended, first_bytes, listed, utf8};
 use crate::judge_rows::judged;
+use crate::request_rows::requested;
 use crate::stored_rows::{copied, name, order, same, stored};
 use crate::whole_rows::{letter_size, limited, whole_row};
 use crate::wire_rows::{eight, field_with_bytes, four, record_within, records, varint, varint_of};
@@ -68,6 +70,7 @@ fn message_outcome(alloc: Global, kind: &str, words: &str) -> Result<String, Fai
         "limit" => limited(alloc, words),
         "size" => letter_size(alloc, words),
         "judge" => judged(alloc, words),
+        "request" => requested(alloc, words),
         _ => stored(alloc, kind, words),
     }
 }

@@ -1,9 +1,9 @@
-//! The decoding of a row.
+//! What a row asks for.
 use crate::row::Row;
 use proto_wire::Bytes;
 use row_text::{Failure, bytes_of, calls_of, words_of};
 use sf_outside::{Fault, MemorySink, MemorySource, Source};
-use statefun_cli::statefun_decode;
+use statefun_cli::{statefun_check, statefun_decode};
 use std::alloc::Global;
 
 /// What came of a decoding.
@@ -35,8 +35,26 @@ pub(crate) fn decode(alloc: Global, row: &Row) -> Result<Decoded, Failure> {
     })
 }
 
-/// The one call of the command.
+/// The call of the command that the first word names: `check`, or else `decode`.
 fn called(alloc: Global, words: &[String], input: &mut MemorySource, out: &mut MemorySink) -> u8 {
+    match words.first() {
+        Some(word) if word.as_str() == "check" => run_check(alloc, words, input, out),
+        _ => run_decode(alloc, words, input, out),
+    }
+}
+
+/// The one call of `statefun_check`.
+fn run_check(alloc: Global, words: &[String], file: &mut MemorySource, out: &mut MemorySink) -> u8 {
+    statefun_check(alloc, words, file, out)
+}
+
+/// The one call of `statefun_decode`.
+fn run_decode(
+    alloc: Global,
+    words: &[String],
+    input: &mut MemorySource,
+    out: &mut MemorySink,
+) -> u8 {
     statefun_decode(alloc, words, input, out)
 }
 

@@ -1,5 +1,5 @@
-//! The program `decode_rows`: gives the words and messages of rows on standard input to the command `statefun decode`, over
-//! a source and a sink in memory, and prints what came of each.
+//! The program `decode_rows`: gives the words and bytes of rows on standard input to the command `statefun decode`, or to
+//! `statefun check` where their first word is `check`, over a source and a sink in memory, and prints what came of each.
 #![tactic(auto)]
 
 mod decoding;

@@ -8,7 +8,8 @@ use Rattle.typed_values.specs.declared.record.Delay.{Delay}
 use Rattle.typed_values.specs.Delays.{sooner, earliest, due_at, if_due}
 use Rattle.delayed_messages.specs.declared.queue.Numbered.{Numbered}
 use Rattle.std.proofs.lemmas.List.{take-append-drop}
-use Rattle.delayed_messages.specs.Waiting.{TakesDue}
+use Rattle.delayed_messages.specs.Waiting.{TakesDue, best_of}
+use Rattle.std.specs.Option.{option_map}
 use Rattle.delayed_messages.specs.Queue.{ComesBefore, IsQueue, AreBelow, IsPut, filed, by_number, delay_of, in_order_of_put, room}
 
 -- what holds of all holds of all in another order
@@ -273,6 +274,14 @@ pub takes-none : (queue : List Numbered) (first : Numbered) (moment : ℕ) → I
     → TakesDue (due_at moment (in_order_of_put queue)) (in_order_of_put queue) None (in_order_of_put queue)
 takes-none [] first moment sorted some head later = absurd (omega (arith, some))
 takes-none (y ∷ ys) first moment sorted some head later = rw (due-later y ys sorted moment (subst (λ (z : Numbered). moment < z.delay.due) head later)) (refl, refl)
+
+pub first-there : (queue : List Numbered) (first : Numbered) → IsQueue queue → 0 < length queue → first ≡ get_or queue 0 first → Some first.delay ≡ option_map best_of (earliest (in_order_of_put queue))
+first-there [] first sorted some head = absurd (omega (arith, some))
+first-there (y ∷ ys) first sorted some head = ap (λ (z : Numbered). Some z.delay) head ∙ sym (ap (option_map best_of) (due-first y ys sorted))
+
+pub first-none : (queue : List Numbered) → length queue ≡ 0 → None ≡ option_map best_of (earliest (in_order_of_put queue))
+first-none [] none = refl
+first-none (y ∷ ys) none = absurd (omega (arith, none))
 
 pub room-grows : (capacity count fewer next : ℕ) → fewer ≤ count → room capacity count next ≤ room capacity fewer next
 room-grows capacity count fewer next less = omega (arith, less)

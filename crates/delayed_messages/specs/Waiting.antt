@@ -12,3 +12,7 @@ pub record Waiting : Type 0 where
 abbrev pub TakesDue : Option (Delay × List Delay) → List Delay → Option Delay → List Delay → Type 0
 TakesDue None old result new = (result ≡ None) × (new ≡ old)
 TakesDue (Some due) old result new = (result ≡ Some due.0) × (new ≡ due.1)
+
+-- the one of the least due, of it and the others
+abbrev pub best_of : Delay × List Delay → Delay
+best_of best = best.0

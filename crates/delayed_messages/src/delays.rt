@@ -1,7 +1,8 @@
 //! The delays that wait.
-ghost use Rattle.std.specs.Prelude.{◌≡◌, ◌+◌, ◌-◌, ◌<◌, ◌≤◌, [], ◌∷◌, ◌++◌, length, count_by, IsTrue, ◌↔◌, IfOk, IfSome, IfNone, OnOk, OnErr, OnSome};
-ghost use Rattle.typed_values.specs.Delays.{is_meant, cancelled, due_at};
-ghost use Rattle.delayed_messages.specs.Waiting.{TakesDue};
+ghost use Rattle.std.specs.Prelude.{◌≡◌, ◌+◌, ◌-◌, ◌<◌, ◌≤◌, [], ◌∷◌, ◌++◌, length, count_by, IsTrue, ◌↔◌, IfOk, IfSome, IfNone, OnOk, OnErr, OnSome, option_copied};
+ghost use Rattle.std.specs.Option.{option_map};
+ghost use Rattle.typed_values.specs.Delays.{is_meant, cancelled, earliest, due_at};
+ghost use Rattle.delayed_messages.specs.Waiting.{TakesDue, best_of};
 
 use crate::queue::{Numbered, by_put, delays_of, enqueue, remove_meant};
 use proto_wire::{List, Mem, OutOfMemory, Text};
@@ -82,6 +83,16 @@ impl Delays {
         let before = self.queue.len();
         remove_meant(&mut self.queue, sender, token);
         (before - self.queue.len()) as u64
+    }
+
+    /// The delay of the least due, the first that was put among equals; `None` exactly where none waits.
+    pub fn first(&self) -> Option<&Delay>
+        ensures { option_copied result ≡ option_map best_of (earliest self.now.delays) }
+    {
+        match self.queue.front() {
+            Some(kept) => Some(&kept.delay),
+            None => None,
+        }
     }
 
     /// Takes out the delay of the least due, the first that was put among equals, where it is due at a moment. None

@@ -27,14 +27,25 @@ fn entry_of(alloc: Global, word: &str) -> Result<Entry, Failure> {
     })
 }
 
-/// The step of a word: `take:SPLIT`, or `serve:ID:MOMENT:SENDERS:ANSWER`, a batch for `n/f` of ID.
+/// The step of a word: `take:SPLIT`, `serve:ID:MOMENT:SENDERS:ANSWER`, a batch for `n/f` of ID, `register:..` likewise, or
+/// `due:ID:MOMENT`.
 pub(crate) fn step_of(alloc: Global, word: &str) -> Result<Step, Failure> {
     let (kind, fields) = word.split_once(':').ok_or(Failure::Row)?;
     match kind {
         "take" => Ok(Step::Take(fields.parse::<u32>()?)),
         "serve" => Ok(Step::Batch(reply_of(alloc, fields)?)),
+        "register" => Ok(Step::Register(reply_of(alloc, fields)?)),
+        "due" => due_of(alloc, fields),
         _ => Err(Failure::Row),
     }
+}
+
+fn due_of(alloc: Global, fields: &str) -> Result<Step, Failure> {
+    let (id, moment) = fields.split_once(':').ok_or(Failure::Row)?;
+    Ok(Step::Due {
+        address: function(alloc, text_of(alloc, id)?)?,
+        moment: moment.parse::<u64>()?,
+    })
 }
 
 fn reply_of(alloc: Global, fields: &str) -> Result<Reply, Failure> {

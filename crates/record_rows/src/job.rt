@@ -1,9 +1,9 @@
 //! The job of the rows.
 ghost use Rattle.std.specs.Prelude.{◌≡◌, IfOk, IsTrue, codes};
-ghost use Rattle.run_record.specs.Routing.{is_routable};
+ghost use Rattle.address_routing.specs.Routing.{is_routable};
 
+use address_routing::{Endpoint, IngressSpec, Module, Routes};
 use proto_wire::{List, Mem, Text};
-use run_record::{Endpoint, IngressSpec, Module, Routes};
 use std::alloc::Global;
 use typed_values::{Address, TypeName, TypePattern};
 
@@ -27,7 +27,7 @@ pub(crate) fn function(alloc: Global, id: Text) -> Mem<Address> {
 
 /// The job: one endpoint for all types of `n`, in batches of at most two letters and 100 bytes; an ingress of two splits, whose
 /// records go to `n/f` and `n/g`; and the egress `n/e`.
-#[tactic(auto, unfolding(run_record::specs::Routing::endpoint_of))]
+#[tactic(auto, unfolding(address_routing::specs::Routing::endpoint_of))]
 fn job(alloc: Global) -> Mem<Module>
     ensures { IfOk result (λ made. IsTrue (is_routable made)) }
 {

@@ -1,9 +1,10 @@
 //! Rows of replays.
 use crate::entries::{entries_of, record};
 use crate::job::routes;
+use address_routing::Routes;
 use proto_wire::{List, Mem};
 use row_text::{Failure, calls_of};
-use run_record::{Entry, Machine, ReplayFault, Replayed, Routes, replay};
+use run_record::{Entry, Machine, ReplayFault, Replayed, replay};
 use sf_outside::{IngressRecord, MemoryIngress};
 use std::alloc::Global;
 

@@ -1,20 +1,22 @@
 //! Rows of steps, one after the other, and of what the machine then holds.
 use crate::entries::{record, sender_of, step_of};
 use crate::job::{function, name, routes};
+use address_routing::Routes;
 use proto_wire::Mem;
 use row_text::{Failure, text_of};
-use run_record::{Entry, Machine, Routes, Step};
+use run_record::{Entry, Machine, Step};
 use sf_outside::IngressRecord;
 use std::alloc::Global;
-use typed_values::TypedValue;
+use typed_values::{Cell, Delay, TypedValue};
 
 /// What each word comes to, from the first state on, in a line of its own.
 ///
 /// | Word | What is printed |
 /// |---|---|
 /// | `take:SPLIT:KEY`, `take:SPLIT` | whether a take is allowed where the split has a record of this key next, or none |
-/// | `serve:ID:MOMENT:SENDERS:ANSWER` | whether that batch is allowed |
-/// | `taken:SPLIT`, `seen:ID` | how many records were taken; the moment of the last batch |
+/// | `serve:ID:MOMENT:SENDERS:ANSWER`, `register:..`, `due:ID:MOMENT` | whether that step is allowed |
+/// | `taken:SPLIT`, `seen:ID` | how many records were taken; the moment of the last batch or registration |
+/// | `cells:ID`, `delays:ID` | the cells of `n/f` of ID; its delayed letters that wait |
 /// | `mail:SENDER:ID`, `egress:ID` | the values that wait for `n/f` of ID, or that it gave to `n/e`, in hexadecimal |
 pub(crate) fn stepped(alloc: Global, words: &str) -> Result<String, Failure> {
     let routes = routes(alloc)?;
@@ -36,9 +38,11 @@ fn told(
     let (kind, fields) = word.split_once(':').ok_or(Failure::Row)?;
     match kind {
         "take" => take(alloc, machine, routes, fields),
-        "serve" => made(alloc, machine, routes, step_of(alloc, word)?, None),
+        "serve" | "register" | "due" => made(alloc, machine, routes, step_of(alloc, word)?, None),
         "taken" => number_text(alloc, machine.taken(fields.parse::<u32>()?)),
         "seen" => seen(alloc, machine, fields),
+        "cells" => cells(alloc, machine, fields),
+        "delays" => delays(alloc, machine, fields),
         "mail" => mail(alloc, machine, fields),
         "egress" => egress(alloc, machine, fields),
         _ => Err(Failure::Row),
@@ -114,6 +118,56 @@ fn number_text(alloc: Global, number: u64) -> Result<String, Failure> {
 fn seen(alloc: Global, machine: &Machine, id: &str) -> Result<String, Failure> {
     let address = function(alloc, text_of(alloc, id)?)?;
     number_text(alloc, machine.seen(&address))
+}
+
+fn cells(alloc: Global, machine: &Machine, id: &str) -> Result<String, Failure> {
+    let address = function(alloc, text_of(alloc, id)?)?;
+    let mut text = String::new(alloc);
+    for place in 0..64 {
+        match machine.cell(&address, place) {
+            Some(cell) => put_cell(alloc, &mut text, cell)?,
+            None => break,
+        }
+    }
+    Ok(or_none(alloc, text)?)
+}
+
+/// Adds a cell's name, type, stamp and value, behind a `,` where something stands before it.
+fn put_cell(alloc: Global, into: &mut String, cell: &Cell) -> Result<(), Failure> {
+    if !into.is_empty() {
+        into.push_str(",")?;
+    }
+    let name = cell.spec.name.as_str();
+    let kind = cell.spec.typename.as_str();
+    let stamp = cell.stamp;
+    let value = match &cell.value {
+        Some(value) => hex::encode(alloc, value.value.as_slice())?,
+        None => String::from_str(alloc, "none")?,
+    };
+    into.push_str(format!(in alloc; "{name}:{kind}:{stamp}:{value}")?.as_str())?;
+    Ok(())
+}
+
+fn delays(alloc: Global, machine: &Machine, id: &str) -> Result<String, Failure> {
+    let address = function(alloc, text_of(alloc, id)?)?;
+    let mut text = String::new(alloc);
+    for delay in machine.delays(alloc, &address)?.as_slice() {
+        put_delay(alloc, &mut text, delay)?;
+    }
+    Ok(or_none(alloc, text)?)
+}
+
+/// Adds a delay's due, its target's id, its token and its value, behind a `,` where something stands before it.
+fn put_delay(alloc: Global, into: &mut String, delay: &Delay) -> Result<(), Failure> {
+    if !into.is_empty() {
+        into.push_str(",")?;
+    }
+    let due = delay.due;
+    let id = delay.target.id.as_str();
+    let token = delay.token.as_str();
+    let value = hex::encode(alloc, delay.argument.value.as_slice())?;
+    into.push_str(format!(in alloc; "{due}:{id}:{token}:{value}")?.as_str())?;
+    Ok(())
 }
 
 fn mail(alloc: Global, machine: &Machine, fields: &str) -> Result<String, Failure> {

@@ -1,4 +1,4 @@
--- An answer has no more egress messages than bytes.
+-- An answer has no more elements than bytes.
 use Rattle.std.proofs.Common.{◌≡◌, ℕ, zero, suc, ◌+◌, ◌-◌, ◌%◌, ◌≤◌, ◌<◌, ◌^◌, Bool, true, false, cond, ltb, eqb, List, [], ◌∷◌, ◌++◌, length, take, drop, Option, Some, None, Result, Ok, Err, arith, length-append, refl, sym, ap, subst, ◌∙◌}
 use Rattle.std.specs.Int.{Width, w32, w64, byte_len}
 use Rattle.proto_wire.specs.declared.fault.WireFault.{WireFault}
@@ -113,89 +113,121 @@ either : {M : Type 0} (P : Type 0) (b : Bool) (r s : Result M ItemFault) (next :
 either P true r s next h k e = h e
 either P false r s next h k e = k e
 
--- ---- the egress messages of a result
+-- ---- the elements of a message with lists
 
 -- a record that enters a list adds one element to it
-one-more : {N : Type 0} (blank : N) (rows : List (Row N)) (values : List N) (item : Item) (put : List N → InvocationResponse) (value next : InvocationResponse)
-    → ((x : N) → length (put (values ++ x ∷ [])).outgoing_egresses ≤ length value.outgoing_egresses + 1)
-    → (appended blank rows values item >>= λ xs. Ok (put xs)) ≡ Ok next → length next.outgoing_egresses ≤ length value.outgoing_egresses + length item.payload + 1
+one-more : {M N : Type 0} (count : M → ℕ) (blank : N) (rows : List (Row N)) (values : List N) (item : Item) (put : List N → M) (value next : M)
+    → ((x : N) → count (put (values ++ x ∷ [])) ≤ count value + 1)
+    → (appended blank rows values item >>= λ xs. Ok (put xs)) ≡ Ok next → count next ≤ count value + length item.payload + 1
 unfolding appended
-one-more {N} blank rows values item put value next few e = entered (value_in rows blank item.payload) e
+one-more {M} {N} count blank rows values item put value next few e = entered (value_in rows blank item.payload) e
   where
-    entered : (r : Result N ItemFault) → ((r >>= λ x. Ok (values ++ x ∷ [])) >>= λ xs. Ok (put xs)) ≡ Ok next → length next.outgoing_egresses ≤ length value.outgoing_egresses + length item.payload + 1
-    entered (Ok x) e = let same : put (values ++ x ∷ []) ≡ next = cc in let k : length (put (values ++ x ∷ [])).outgoing_egresses ≤ length value.outgoing_egresses + 1 = few x in rw (← same) (omega arith)
+    entered : (r : Result N ItemFault) → ((r >>= λ x. Ok (values ++ x ∷ [])) >>= λ xs. Ok (put xs)) ≡ Ok next → count next ≤ count value + length item.payload + 1
+    entered (Ok x) e = let same : put (values ++ x ∷ []) ≡ next = cc in let k : count (put (values ++ x ∷ [])) ≤ count value + 1 = few x in rw (← same) (omega arith)
     entered (Err f) e = absurd cc
 
-egress-raises : (value next : InvocationResponse) (item : Item) → accepted response_rows value item ≡ Ok next → length next.outgoing_egresses ≤ length value.outgoing_egresses + length item.payload + 1
+abbrev pub result-count : InvocationResponse → ℕ
+result-count response =
+    length response.state_mutations + length response.outgoing_messages + length response.delayed_invocations + length response.outgoing_egresses
+
+result-raises : (value next : InvocationResponse) (item : Item) → accepted response_rows value item ≡ Ok next → result-count next ≤ result-count value + length item.payload + 1
 unfolding response_rows
-egress-raises value next item e =
-    either Few (belongs 1 2 item) _ _ next (λ e. one-more _ _ value.state_mutations item (λ xs. record value { state_mutations = xs }) value next (λ x. omega arith) e)
-    (λ e. either Few (belongs 2 2 item) _ _ next (λ e. one-more _ _ value.outgoing_messages item (λ xs. record value { outgoing_messages = xs }) value next (λ x. omega arith) e)
-    (λ e. either Few (belongs 3 2 item) _ _ next (λ e. one-more _ _ value.delayed_invocations item (λ xs. record value { delayed_invocations = xs }) value next (λ x. omega arith) e)
-    (λ e. either Few (belongs 4 2 item) _ _ next (λ e. one-more _ _ value.outgoing_egresses item (λ xs. record value { outgoing_egresses = xs }) value next (λ x. simp length-append (omega arith)) e)
+result-raises value next item e =
+    either Few (belongs 1 2 item) _ _ next (λ e. one-more result-count _ _ value.state_mutations item (λ xs. record value { state_mutations = xs }) value next (λ x. simp length-append (omega arith)) e)
+    (λ e. either Few (belongs 2 2 item) _ _ next (λ e. one-more result-count _ _ value.outgoing_messages item (λ xs. record value { outgoing_messages = xs }) value next (λ x. simp length-append (omega arith)) e)
+    (λ e. either Few (belongs 3 2 item) _ _ next (λ e. one-more result-count _ _ value.delayed_invocations item (λ xs. record value { delayed_invocations = xs }) value next (λ x. simp length-append (omega arith)) e)
+    (λ e. either Few (belongs 4 2 item) _ _ next (λ e. one-more result-count _ _ value.outgoing_egresses item (λ xs. record value { outgoing_egresses = xs }) value next (λ x. simp length-append (omega arith)) e)
     (λ e. let same : value ≡ next = cc in rw (← same) (omega arith)) e) e) e) e
   where
     Few : Type 0
-    Few = length next.outgoing_egresses ≤ length value.outgoing_egresses + length item.payload + 1
+    Few = result-count next ≤ result-count value + length item.payload + 1
 
-egresses-in : (bytes : List ℕ) (value last : InvocationResponse) → value_in response_rows value bytes ≡ Ok last → length last.outgoing_egresses ≤ length value.outgoing_egresses + length bytes
-egresses-in bytes value last e = counted response_rows (λ response. length response.outgoing_egresses) egress-raises (length bytes) bytes value last (omega arith) e
+abbrev pub context-count : IncompleteInvocationContext → ℕ
+context-count context = length context.missing_values
+
+context-raises : (value next : IncompleteInvocationContext) (item : Item) → accepted context_rows value item ≡ Ok next → context-count next ≤ context-count value + length item.payload + 1
+unfolding context_rows
+context-raises value next item e =
+    either Few (belongs 1 2 item) _ _ next (λ e. one-more context-count _ _ value.missing_values item (λ xs. record value { missing_values = xs }) value next (λ x. simp length-append (omega arith)) e)
+    (λ e. let same : value ≡ next = cc in rw (← same) (omega arith)) e
+  where
+    Few : Type 0
+    Few = context-count next ≤ context-count value + length item.payload + 1
 
 -- ---- those of an answer
 
-abbrev answer-egresses : Option FromFunction → ℕ
-answer-egresses None = 0
-answer-egresses (Some (answers.Result response)) = length response.outgoing_egresses
-answer-egresses (Some (answers.Incomplete context)) = 0
+abbrev answer-count : Option FromFunction → ℕ
+answer-count None = 0
+answer-count (Some (answers.Result response)) = result-count response
+answer-count (Some (answers.Incomplete context)) = context-count context
 
--- the result that stands, or the empty one, with the payload in it
-result-raises : (member : Option FromFunction) (next : FromRead) (item : Item) → (joined empty_response response_rows (response_of member) item >>= λ response. Ok (record { member = Some (answers.Result response) })) ≡ Ok next
-    → answer-egresses next.member ≤ answer-egresses member + length item.payload + 1
-unfolding joined response_of empty_response
-result-raises member next item e = by_member member e
+-- a message goes on from one that counts no more than the member, with the payload in it
+goes-on : {N : Type 0} (count : N → ℕ) (rows : List (Row N)) (wrap : N → FromFunction)
+    → ((value next : N) (item : Item) → accepted rows value item ≡ Ok next → count next ≤ count value + length item.payload + 1)
+    → ((x : N) → answer-count (Some (wrap x)) ≡ count x)
+    → (value : N) (member : Option FromFunction) → count value ≤ answer-count member
+    → (next : FromRead) (item : Item) → (value_in rows value item.payload >>= λ x. Ok (record { member = Some (wrap x) })) ≡ Ok next
+    → answer-count next.member ≤ answer-count member + length item.payload + 1
+goes-on {N} count rows wrap raises counts value member below next item e = by_read (value_in rows value item.payload) refl e
   where
-    read-on : (value : InvocationResponse) (r : Result InvocationResponse ItemFault) → value_in response_rows value item.payload ≡ r → (r >>= λ response. Ok (record { member = Some (answers.Result response) })) ≡ Ok next
-        → answer-egresses next.member ≤ length value.outgoing_egresses + length item.payload + 1
-    read-on value (Ok response) is e =
-        let same : record { member = Some (answers.Result response) } ≡ next = cc in
-        let k : length response.outgoing_egresses ≤ length value.outgoing_egresses + length item.payload = egresses-in item.payload value response is in
+    by_read : (r : Result N ItemFault) → value_in rows value item.payload ≡ r → (r >>= λ x. Ok (record { member = Some (wrap x) })) ≡ Ok next
+        → answer-count next.member ≤ answer-count member + length item.payload + 1
+    by_read (Ok x) is e =
+        let same : record { member = Some (wrap x) } ≡ next = cc in
+        let k : count x ≤ count value + length item.payload = counted rows count raises (length item.payload) item.payload value x (omega arith) is in
+        let own : answer-count (Some (wrap x)) ≡ count x = counts x in
         rw (← same) (omega arith)
-    read-on value (Err f) is e = absurd cc
+    by_read (Err f) is e = absurd cc
 
-    by_member : (own : Option FromFunction) → (joined empty_response response_rows (response_of own) item >>= λ response. Ok (record { member = Some (answers.Result response) })) ≡ Ok next → answer-egresses next.member ≤ answer-egresses own + length item.payload + 1
-    by_member None e = read-on empty_response (value_in response_rows empty_response item.payload) refl e
-    by_member (Some (answers.Result response)) e = read-on response (value_in response_rows response item.payload) refl e
-    by_member (Some (answers.Incomplete context)) e = read-on empty_response (value_in response_rows empty_response item.payload) refl e
-
--- an incomplete answer has none
-context-raises : (r : Result IncompleteInvocationContext ItemFault) (member : Option FromFunction) (next : FromRead) (item : Item) → (r >>= λ context. Ok (record { member = Some (answers.Incomplete context) })) ≡ Ok next
-    → answer-egresses next.member ≤ answer-egresses member + length item.payload + 1
-context-raises (Ok context) member next item e = let same : record { member = Some (answers.Incomplete context) } ≡ next = cc in rw (← same) (omega arith)
-context-raises (Err f) member next item e = absurd cc
-
-answer-raises : (value next : FromRead) (item : Item) → accepted from_rows value item ≡ Ok next → answer-egresses next.member ≤ answer-egresses value.member + length item.payload + 1
-unfolding from_rows
+answer-raises : (value next : FromRead) (item : Item) → accepted from_rows value item ≡ Ok next → answer-count next.member ≤ answer-count value.member + length item.payload + 1
+unfolding from_rows empty_response empty_context response_of context_of joined
 answer-raises value next item e =
-    either Few (belongs 100 2 item) _ _ next (λ e. result-raises value.member next item e)
-    (λ e. either Few (belongs 101 2 item) _ _ next (λ e. context-raises (joined empty_context context_rows (context_of value.member) item) value.member next item e)
+    either Few (belongs 100 2 item) _ _ next (λ e. as_result value.member e)
+    (λ e. either Few (belongs 101 2 item) _ _ next (λ e. as_context value.member e)
     (λ e. let same : value ≡ next = cc in rw (← same) (omega arith)) e) e
   where
     Few : Type 0
-    Few = answer-egresses next.member ≤ answer-egresses value.member + length item.payload + 1
+    Few = answer-count next.member ≤ answer-count value.member + length item.payload + 1
+
+    result-on : (value : InvocationResponse) (member : Option FromFunction) → result-count value ≤ answer-count member
+        → (value_in response_rows value item.payload >>= λ x. Ok (record { member = Some (answers.Result x) })) ≡ Ok next → answer-count next.member ≤ answer-count member + length item.payload + 1
+    result-on value member below e = goes-on result-count response_rows answers.Result result-raises (λ x. refl) value member below next item e
+
+    context-on : (value : IncompleteInvocationContext) (member : Option FromFunction) → context-count value ≤ answer-count member
+        → (value_in context_rows value item.payload >>= λ x. Ok (record { member = Some (answers.Incomplete x) })) ≡ Ok next → answer-count next.member ≤ answer-count member + length item.payload + 1
+    context-on value member below e = goes-on context-count context_rows answers.Incomplete context-raises (λ x. refl) value member below next item e
+
+    as_result : (member : Option FromFunction) → (joined empty_response response_rows (response_of member) item >>= λ x. Ok (record { member = Some (answers.Result x) })) ≡ Ok next
+        → answer-count next.member ≤ answer-count member + length item.payload + 1
+    as_result None e = result-on empty_response None (omega arith) e
+    as_result (Some (answers.Result response)) e = result-on response (Some (answers.Result response)) (omega arith) e
+    as_result (Some (answers.Incomplete context)) e = result-on empty_response (Some (answers.Incomplete context)) (omega arith) e
+
+    as_context : (member : Option FromFunction) → (joined empty_context context_rows (context_of member) item >>= λ x. Ok (record { member = Some (answers.Incomplete x) })) ≡ Ok next
+        → answer-count next.member ≤ answer-count member + length item.payload + 1
+    as_context None e = context-on empty_context None (omega arith) e
+    as_context (Some (answers.Result response)) e = context-on empty_context (Some (answers.Result response)) (omega arith) e
+    as_context (Some (answers.Incomplete context)) e = context-on context (Some (answers.Incomplete context)) (omega arith) e
 
 -- so a short answer has few of them
-pub egresses-few : (bytes : List ℕ) (response : InvocationResponse) → from_value bytes ≡ Ok (answers.Result response) → length bytes ≤ 4194304 → length response.outgoing_egresses < 2 ^ 32
+elements-few : (bytes : List ℕ) (answer : FromFunction) → from_value bytes ≡ Ok answer → length bytes ≤ 4194304 → answer-count (Some answer) ≤ 4194304
 unfolding from_value no_answer
-egresses-few bytes response e short = by_read (value_in from_rows no_answer bytes) refl e
+elements-few bytes answer e short = by_read (value_in from_rows no_answer bytes) refl e
   where
-    by_read : (r : Result FromRead ItemFault) → value_in from_rows no_answer bytes ≡ r → (located (length bytes) r >>= λ read. present (length bytes) read.member) ≡ Ok (answers.Result response) → length response.outgoing_egresses < 2 ^ 32
+    by_read : (r : Result FromRead ItemFault) → value_in from_rows no_answer bytes ≡ r → (located (length bytes) r >>= λ read. present (length bytes) read.member) ≡ Ok answer → answer-count (Some answer) ≤ 4194304
     by_read (Ok read) is e = by_member read.member refl e
       where
-        by_member : (member : Option FromFunction) → read.member ≡ member → present (length bytes) member ≡ Ok (answers.Result response) → length response.outgoing_egresses < 2 ^ 32
+        by_member : (member : Option FromFunction) → read.member ≡ member → present (length bytes) member ≡ Ok answer → answer-count (Some answer) ≤ 4194304
         by_member None m e = absurd cc
-        by_member (Some answer) m e =
-            let same : answer ≡ answers.Result response = cc in
-            let few : answer-egresses read.member ≤ answer-egresses no_answer.member + length bytes = counted from_rows (λ read. answer-egresses read.member) answer-raises (length bytes) bytes no_answer read (omega arith) is in
-            let own : answer-egresses read.member ≡ length response.outgoing_egresses = ap answer-egresses (m ∙ ap Some same) in
+        by_member (Some own) m e =
+            let same : own ≡ answer = cc in
+            let few : answer-count read.member ≤ answer-count no_answer.member + length bytes = counted from_rows (λ read. answer-count read.member) answer-raises (length bytes) bytes no_answer read (omega arith) is in
+            let is_own : answer-count read.member ≡ answer-count (Some answer) = ap answer-count (m ∙ ap Some same) in
             omega arith
     by_read (Err f) is e = absurd cc
+
+pub result-few : (bytes : List ℕ) (response : InvocationResponse) → from_value bytes ≡ Ok (answers.Result response) → length bytes ≤ 4194304 → result-count response ≤ 4194304
+result-few bytes response e short = elements-few bytes (answers.Result response) e short
+
+pub context-few : (bytes : List ℕ) (context : IncompleteInvocationContext) → from_value bytes ≡ Ok (answers.Incomplete context) → length bytes ≤ 4194304 → context-count context ≤ 4194304
+context-few bytes context e short = elements-few bytes (answers.Incomplete context) e short

@@ -2,5 +2,5 @@ pub mod Puts
 pub mod RoundTrip
 pub mod Members
 pub mod Counts
+pub mod Declaring
 pub mod Pieces
-pub mod Agreeing

@@ -3,7 +3,7 @@ pub mod AnswerTables
 pub mod Oneofs
 pub mod Members
 pub mod Spelling
+pub mod Flaws
 pub mod Valid
 pub mod Feeding
-pub mod Flaws
 pub mod Letters

@@ -28,8 +28,6 @@ pub enum FlawKind {
     TooMany,
     /// 12: missing values of which none is new.
     NoNewName,
-    /// 90: an answer that this version of the runtime does not serve yet.
-    NotBuilt,
 }
 
 /// The first thing that is wrong with an answer.

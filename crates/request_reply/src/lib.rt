@@ -5,10 +5,13 @@ mod answer;
 mod answer_messages;
 mod batch;
 mod copies;
+mod elements;
 mod feeder;
 mod field_laws;
 mod flaw;
 mod judging;
+mod known;
+mod missing;
 mod request;
 mod request_messages;
 mod whole;
@@ -21,7 +24,11 @@ pub use batch::{Batch, Stop};
 pub use feeder::{Feeder, decode_pieces_from, decode_pieces_to};
 pub use field_laws::members_of_an_answer;
 pub use flaw::{Flaw, FlawKind, Reason};
-pub use judging::{ANSWER_LIMIT, Judged, judge};
+pub use judging::{ANSWER_LIMIT, Judgement, judge};
+pub use known::Known;
 pub use proto_wire::DecodeFault;
 pub use request::{BatchInvocation, InvocationBatchRequest, PersistedValue, ToFunction};
-pub use whole::{decode_from, decode_to, encode_from, encode_to, size_from, size_letter, size_to};
+pub use whole::{
+    decode_from, decode_to, encode_from, encode_to, size_from, size_letter, size_letter_from,
+    size_to,
+};

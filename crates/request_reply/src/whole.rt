@@ -3,6 +3,7 @@ ghost use Rattle.std.specs.Prelude.{◌≡◌, ◌++◌, length, IfOk, Ok, Some}
 ghost use Rattle.proto_wire.specs.Reads.{Gives};
 ghost use Rattle.proto_wire.specs.Message.{capped, fit};
 ghost use Rattle.request_reply.specs.Oneofs.{no_request, to_rows, no_answer, from_rows};
+ghost use Rattle.typed_values.specs.declared.address.Address.{Address};
 ghost use Rattle.request_reply.specs.Letters.{letter_record};
 ghost use Rattle.request_reply.specs.Spelling.{to_spelling, from_spelling, to_value, from_value};
 
@@ -12,7 +13,7 @@ use proto_wire::{
     record_size, with_member,
 };
 use std::alloc::Global;
-use typed_values::{Letter, Sender};
+use typed_values::{Letter, Sender, TypedValue};
 
 /// A request while it is read: the member that stands.
 #[derive(Drop)]
@@ -177,13 +178,20 @@ pub fn decode_from(alloc: Global, bytes: &[u8]) -> Result<FromFunction, DecodeFa
 }
 
 /// The length of a letter's record in a batch, or `u64::MAX` where it is greater. Takes no memory.
-#[tactic(auto, unfolding(crate::specs::Letters::letter_record, crate::specs::RequestTables::batch_invocation_rows, proto_wire::specs::Message::spelled_message))]
 pub fn size_letter(letter: &Letter) -> u64
     ensures { result ≡ capped (length (letter_record letter.now)) }
 {
-    let caller = match &letter.sender {
+    size_letter_from(&letter.sender, &letter.argument)
+}
+
+/// The same by the letter's sender and argument: its target does not stand in the record. Takes no memory.
+#[tactic(auto, unfolding(crate::specs::Letters::letter_record, crate::specs::RequestTables::batch_invocation_rows, proto_wire::specs::Message::spelled_message))]
+pub fn size_letter_from(sender: &Sender, argument: &TypedValue) -> u64
+    ensures { (target : Address) → result ≡ capped (length (letter_record (record { sender = sender.now; target = target; argument = argument.now }))) }
+{
+    let caller = match sender {
         Sender::Function(address) => member_size(1, address),
         Sender::Split(_) => 0,
     };
-    record_size(3, caller.saturating_add(member_size(2, &letter.argument)))
+    record_size(3, caller.saturating_add(member_size(2, argument)))
 }

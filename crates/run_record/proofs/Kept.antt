@@ -1,12 +1,13 @@
--- What steps leave in the queues, in the words of the state.
-use Rattle.std.proofs.Common.{◌≡◌, ◌∙◌, sym, ap, subst, refl, ℕ, ◌+◌, ◌<◌, ◌≤◌, true≢false, List, [], ◌∷◌, ◌++◌, Bool, true, false, cond, map, filter, drop, get_or, length, count_by, slice_get, Option, Some, None, option_and_then, arith, map-id}
-use Rattle.std.specs.Prelude.{◌&&◌, IsSome}
+-- What steps leave in the queues and the parts, in the words of the state.
+use Rattle.std.proofs.Common.{◌≡◌, ◌∙◌, sym, ap, subst, refl, ℕ, ◌+◌, ◌<◌, ◌≤◌, true≢false, List, [], ◌∷◌, ◌++◌, Bool, true, false, cond, map, filter, drop, get_or, length, count_by, slice_get, Option, Some, None, option_and_then, arith, map-id, append-nil, eqb-true, eq-eqb}
+use Rattle.std.specs.Prelude.{◌&&◌, IsSome, nat_eq}
 use Rattle.std.specs.Ordering.{is_eq}
 use Rattle.std.specs.Cmp.{IsTotalOrder, eq_by_cmp_equiv}
 use Rattle.std.proofs.lemmas.Cmp.{then_total, on_total, nat_list_cmp_total, nat_cmp_total}
 use Rattle.std.proofs.lemmas.Map.Views.{tells_apart}
 use Rattle.std.proofs.lemmas.Bool.Decides.{same_from_decides}
 use Rattle.std.proofs.lemmas.List.{drop-append-le}
+use Rattle.std.proofs.lemmas.List.Sums.{sum_by-cons}
 use Rattle.std.proofs.lemmas.Option.{slice_get_within}
 use Rattle.typed_values.specs.declared.name.TypeName.{TypeName}
 use Rattle.typed_values.specs.declared.address.Address.{Address}
@@ -17,27 +18,17 @@ use Rattle.typed_values.specs.declared.letter.Letter.{Letter}
 use Rattle.typed_values.specs.declared.record.EgressRecord.{EgressRecord}
 use Rattle.typed_values.specs.Sameness.{same_name, same_address, same_sender}
 use Rattle.typed_values.proofs.Sameness.{same_name-Decides, same_address-Decides, same_sender-Decides}
-use Rattle.request_reply.specs.declared.request.BatchInvocation.{BatchInvocation}
-use Rattle.request_reply.specs.declared.answer.EgressMessage.{EgressMessage}
-use Rattle.request_reply.specs.declared.answer.InvocationResponse.{InvocationResponse}
-use Rattle.std.proofs.lemmas.List.Sums.{sum_by-cons}
-use Rattle.sf_outside.specs.declared.ingress.IngressRecord.{IngressRecord}
-use Rattle.run_record.specs.declared.module.Module.{Module}
-use Rattle.run_record.specs.declared.entry.Reply.{Reply}
-use Rattle.run_record.specs.Routing.{letters_of}
-use Rattle.run_record.specs.Machine.{took, Mail, posted_all, emitted, egress_name, picked_behind, picked, unpicked, letters_from, seen_after, served, taken_after, waiting_letter}
-use Rattle.request_reply.specs.Letters.{invocation_of}
-use Rattle.run_record.proofs.Picks.{count-push}
-use Rattle.run_record.specs.declared.machine.Machine.{Machine}
-use Rattle.run_record.specs.declared.shelves.Placed.{Placed}
 use Rattle.typed_values.proofs.Orders.{exact_names, exact_addresses, exact_senders}
-use Rattle.run_record.specs.Keys.{name_order, address_order, sender_order}
-use Rattle.run_record.specs.Queues.{values_at, HasBehind, is_placed, SetsAt}
-use Rattle.run_record.specs.Egress.{egress_record, is_between, arguments_at}
-use Rattle.run_record.specs.Deliveries.{arguments_of}
-use Rattle.run_record.proofs.LawsOfEgress.{emitted_is}
-use Rattle.run_record.proofs.LawsOfMail.{posted_all-is}
-use Rattle.run_record.specs.StateOf.{mail_of, egress_in, moment_in, state_of, placed_letter, placed_message}
+use Rattle.keyed_queues.specs.declared.shelves.Placed.{Placed}
+use Rattle.keyed_queues.specs.Keys.{name_order, address_order, sender_order}
+use Rattle.keyed_queues.specs.Queues.{values_at, HasBehind, is_placed, SetsAt}
+use Rattle.run_record.specs.declared.entry.Step.{Step}
+use Rattle.run_record.specs.declared.machine.Machine.{Machine}
+use Rattle.run_record.specs.declared.parts.Parts.{Parts}
+use Rattle.run_record.specs.Machine.{Own, Mail, Act, actor_of, leaving, letter_of, is_of_pair, is_between, arguments_of, arguments_at, posted, given, picked_behind, picked, unpicked, left, acted}
+use Rattle.run_record.specs.StateOf.{mail_of, egress_in, own_in, own_by, state_of, placed_letter, placed_record, CountsOne}
+use Rattle.run_record.proofs.Steps.{some_from_and_then}
+use Rattle.run_record.proofs.Picks.{count-push, same_function}
 
 -- ---- the orders test sameness
 
@@ -54,7 +45,7 @@ sender_itself (Function a) = (eq_by_cmp_equiv addresses_total).refl a
 name_test : (x y : TypeName) → is_eq (name_order x y) ≡ same_name x y
 name_test x y = same_from_decides (is_eq (name_order x y)) (same_name x y) (tells_apart exact_names x y, λ e. subst (λ z. is_eq (name_order x z) ≡ true) e ((eq_by_cmp_equiv names_total).refl x)) (same_name-Decides x y)
 
-address_test : (x y : Address) → is_eq (address_order x y) ≡ same_address x y
+pub address_test : (x y : Address) → is_eq (address_order x y) ≡ same_address x y
 address_test x y = same_from_decides (is_eq (address_order x y)) (same_address x y) (tells_apart exact_addresses x y, λ e. subst (λ z. is_eq (address_order x z) ≡ true) e ((eq_by_cmp_equiv addresses_total).refl x)) (same_address-Decides x y)
 
 sender_test : (x y : Sender) → is_eq (sender_order x y) ≡ same_sender x y
@@ -81,39 +72,34 @@ same_values p q f g v w (m ∷ ms) tests values = at (p (f m)) (q (g m)) (tests 
 letters_at : (letters : List Letter) (sender : Sender) (target : Address) → values_at address_order sender_order (map placed_letter letters) target sender ≡ arguments_of sender target letters
 unfolding arguments_of
 letters_at letters sender target =
-    same_values (is_placed address_order sender_order target sender) (λ (letter : Letter). same_sender letter.sender sender && same_address letter.target target) placed_letter (λ (letter : Letter). letter) (λ (item : Placed Address Sender TypedValue). item.value) (λ (letter : Letter). letter.argument) letters
+    same_values (is_placed address_order sender_order target sender) (is_of_pair sender target) placed_letter (λ (letter : Letter). letter) (λ (item : Placed Address Sender TypedValue). item.value) (λ (letter : Letter). letter.argument) letters
     (λ letter. swapped (is_eq (address_order letter.target target)) (is_eq (sender_order letter.sender sender)) (same_sender letter.sender sender) (same_address letter.target target) (address_test letter.target target) (sender_test letter.sender sender))
     (λ letter. refl)
-    ∙ ap (λ xs. map (λ (letter : Letter). letter.argument) (filter (λ (letter : Letter). same_sender letter.sender sender && same_address letter.target target) xs)) (map-id letters)
+    ∙ ap (λ xs. map (λ (letter : Letter). letter.argument) (filter (is_of_pair sender target) xs)) (map-id letters)
 
-messages_at : (address : Address) (messages : List EgressMessage) (other : Address) (egress : TypeName) → values_at address_order name_order (map (placed_message address) messages) other egress ≡ arguments_at other egress (map (egress_record address) messages)
+records_at : (records : List EgressRecord) (address : Address) (egress : TypeName) → values_at address_order name_order (map placed_record records) address egress ≡ arguments_at address egress records
 unfolding arguments_at
-messages_at address messages other egress =
-    same_values (is_placed address_order name_order other egress) (is_between other egress) (placed_message address) (egress_record address) (λ (item : Placed Address TypeName TypedValue). item.value) (λ (r : EgressRecord). r.argument) messages
-    (λ message i. address_test address other i && name_test (egress_name message) egress i)
-    (λ message. refl)
+records_at records address egress =
+    same_values (is_placed address_order name_order address egress) (is_between address egress) placed_record (λ (r : EgressRecord). r) (λ (item : Placed Address TypeName TypedValue). item.value) (λ (r : EgressRecord). r.argument) records
+    (λ r i. address_test r.sender address i && name_test r.egress egress i)
+    (λ r. refl)
+    ∙ ap (λ xs. map (λ (r : EgressRecord). r.argument) (filter (is_between address egress) xs)) (map-id records)
 
 -- ---- mail and egress
 
-pub mail_posted : (before after : Mail) (letters : List Letter) → HasBehind address_order sender_order (λ target sender. before sender target) (map placed_letter letters) (λ target sender. after sender target) → (sender : Sender) (target : Address) → after sender target ≡ posted_all before letters sender target
-mail_posted before after letters has sender target =
-    has target sender ∙ ap (λ xs. before sender target ++ xs) (letters_at letters sender target) ∙ sym (posted_all-is before letters sender target)
+pub mail_posted : (before after : Mail) (letters : List Letter) → HasBehind address_order sender_order (λ target sender. before sender target) (map placed_letter letters) (λ target sender. after sender target) → (sender : Sender) (target : Address) → after sender target ≡ posted before letters sender target
+mail_posted before after letters has sender target = has target sender ∙ ap (λ xs. before sender target ++ xs) (letters_at letters sender target)
 
-pub egress_emitted : (address : Address) (messages : List EgressMessage) (before after : Address → TypeName → List TypedValue) → HasBehind address_order name_order before (map (placed_message address) messages) after → (other : Address) (egress : TypeName) → after other egress ≡ emitted address messages before other egress
-egress_emitted address messages before after has other egress =
-    has other egress ∙ ap (λ xs. before other egress ++ xs) (messages_at address messages other egress) ∙ sym (emitted_is address messages before other egress)
-
-some_from_and_then : {A B : Type 0} (f : A → Option B) (o : Option A) (y : B) → option_and_then f o ≡ Some y → (x : A) × (o ≡ Some x) × (f x ≡ Some y)
-some_from_and_then f None y h = absurd cc
-some_from_and_then f (Some x) y h = (x, refl, h)
+pub egress_given : (before after : Address → TypeName → List TypedValue) (records : List EgressRecord) → HasBehind address_order name_order before (map placed_record records) after → (address : Address) (name : TypeName) → after address name ≡ given before records address name
+egress_given before after records has address name = has address name ∙ ap (λ xs. before address name ++ xs) (records_at records address name)
 
 -- ---- picked letters are there
 
-enough : (target : Address) (mail : Sender → List TypedValue) (before picks : List Sender) (letters : List BatchInvocation) → ((sender : Sender) → count_by (same_sender sender) before ≤ length (mail sender)) → picked_behind target before mail picks ≡ Some letters → (sender : Sender) → count_by (same_sender sender) before + count_by (same_sender sender) picks ≤ length (mail sender)
+enough : (target : Address) (mail : Sender → List TypedValue) (before picks : List Sender) (letters : List Letter) → ((sender : Sender) → count_by (same_sender sender) before ≤ length (mail sender)) → picked_behind target before mail picks ≡ Some letters → (sender : Sender) → count_by (same_sender sender) before + count_by (same_sender sender) picks ≤ length (mail sender)
 enough target mail before [] letters there h sender = omega (arith, there sender)
 enough target mail before (pick ∷ picks) letters there h sender =
-    let got = some_from_and_then (λ argument. option_and_then (λ others. Some (invocation_of (waiting_letter pick target argument) ∷ others)) (picked_behind target (before ++ pick ∷ []) mail picks)) (slice_get (mail pick) (count_by (same_sender pick) before)) letters h in
-    let gave = some_from_and_then (λ others. Some (invocation_of (waiting_letter pick target got.0) ∷ others)) (picked_behind target (before ++ pick ∷ []) mail picks) letters got.2 in
+    let got = some_from_and_then (λ argument. option_and_then (λ others. Some (letter_of pick target argument ∷ others)) (picked_behind target (before ++ pick ∷ []) mail picks)) (slice_get (mail pick) (count_by (same_sender pick) before)) letters h in
+    let gave = some_from_and_then (λ others. Some (letter_of pick target got.0 ∷ others)) (picked_behind target (before ++ pick ∷ []) mail picks) letters got.2 in
     let inside = slice_get_within (mail pick) (count_by (same_sender pick) before) got.0 got.1 in
     let rest = enough target mail (before ++ pick ∷ []) picks gave.0 (λ other. one_more other (same_sender other pick) refl inside) gave.1 sender in
     let here = count-push sender pick before in
@@ -134,64 +120,90 @@ pub picks_are_there : (target : Address) (mail : Sender → List TypedValue) (pi
 unfolding picked
 picks_are_there target mail picks is sender = go (picked_behind target [] mail picks) refl is
   where
-    go : (o : Option (List BatchInvocation)) → picked_behind target [] mail picks ≡ o → IsSome o → count_by (same_sender sender) picks ≤ length (mail sender)
+    go : (o : Option (List Letter)) → picked_behind target [] mail picks ≡ o → IsSome o → count_by (same_sender sender) picks ≤ length (mail sender)
     go None e is = absurd cc
     go (Some letters) e is = omega (arith, enough target mail [] picks letters (λ other. omega arith) e sender)
 
 -- letters that are posted before picked ones leave stand as if they had been posted behind
-pub posted_before : (address : Address) (picks : List Sender) (letters : List Letter) (before posted left : Mail) → IsSome (picked address (λ sender. before sender address) picks) → ((sender : Sender) (target : Address) → posted sender target ≡ posted_all before letters sender target) → ((sender : Sender) (target : Address) → left sender target ≡ unpicked address picks posted sender target) → (sender : Sender) (target : Address) → left sender target ≡ posted_all (unpicked address picks before) letters sender target
-posted_before address picks letters before posted left there was is sender target =
-    is sender target ∙ go (same_address address target) refl ∙ sym (posted_all-is (unpicked address picks before) letters sender target)
+pub posted_before : (address : Address) (picks : List Sender) (letters : List Letter) (before after left : Mail) → IsSome (picked address (λ sender. before sender address) picks) → ((sender : Sender) (target : Address) → after sender target ≡ posted before letters sender target) → ((sender : Sender) (target : Address) → left sender target ≡ unpicked (Function address) picks after sender target) → (sender : Sender) (target : Address) → left sender target ≡ posted (unpicked (Function address) picks before) letters sender target
+posted_before address picks letters before after left there was is sender target = is sender target ∙ go (same_sender (Function address) (Function target)) refl
   where
-    here : posted sender target ≡ before sender target ++ arguments_of sender target letters
-    here = was sender target ∙ posted_all-is before letters sender target
-
-    go : (b : Bool) → same_address address target ≡ b → cond b (drop (count_by (same_sender sender) picks) (posted sender target)) (posted sender target) ≡ cond b (drop (count_by (same_sender sender) picks) (before sender target)) (before sender target) ++ arguments_of sender target letters
-    go false e = here
+    go : (b : Bool) → same_sender (Function address) (Function target) ≡ b → cond b (drop (count_by (same_sender sender) picks) (after sender target)) (after sender target) ≡ cond b (drop (count_by (same_sender sender) picks) (before sender target)) (before sender target) ++ arguments_of sender target letters
+    go false e = was sender target
     go true e =
-        let same = (same_address-Decides address target).0 e in
+        let same = same_function address target e in
         let long : count_by (same_sender sender) picks ≤ length (before sender target) = subst (λ a. count_by (same_sender sender) picks ≤ length (before sender a)) same (picks_are_there address (λ s. before s address) picks there sender) in
-        ap (drop (count_by (same_sender sender) picks)) here ∙ drop-append-le (count_by (same_sender sender) picks) (before sender target) (arguments_of sender target letters) long
+        ap (drop (count_by (same_sender sender) picks)) (was sender target) ∙ drop-append-le (count_by (same_sender sender) picks) (before sender target) (arguments_of sender target letters) long
 
-pub seen_set : (address : Address) (moment : ℕ) (before after : Address → ℕ) → SetsAt before after address moment → (other : Address) → after other ≡ seen_after address moment before other
-seen_set address moment before after sets other = go (same_address address other) refl
+-- no pick leaves nothing behind
+pub unpicked_none : (actor : Sender) (mail : Mail) (sender : Sender) (target : Address) → unpicked actor [] mail sender target ≡ mail sender target
+unpicked_none actor mail sender target = by (same_sender actor (Function target))
   where
-    go : (b : Bool) → same_address address other ≡ b → after other ≡ cond b moment (before other)
-    go true e = ap after (sym ((same_address-Decides address other).0 e)) ∙ sets.here
-    go false e = sets.others other (λ same. true≢false (sym ((same_address-Decides address other).1 (sym same)) ∙ e))
+    by : (b : Bool) → cond b (drop 0 (mail sender target)) (mail sender target) ≡ mail sender target
+    by true = refl
+    by false = refl
+
+pub posted_none : (mail : Mail) (sender : Sender) (target : Address) → posted mail [] sender target ≡ mail sender target
+unfolding arguments_of
+posted_none mail sender target = append-nil (mail sender target)
+
+pub given_none : (egress : Address → TypeName → List TypedValue) (address : Address) (name : TypeName) → given egress [] address name ≡ egress address name
+unfolding arguments_at
+given_none egress address name = append-nil (egress address name)
+
+-- ---- what actors have
+
+pub own_taken : (split : ℕ) (taken taken' : List ℕ) (parts : Parts) (act : Act) → CountsOne split (λ (n : ℕ). get_or taken n 0) (λ (n : ℕ). get_or taken' n 0) → left act (own_by taken parts (Split split)) ≡ record { taken = get_or taken split 0 + 1; cells = []; seen = 0; delays = [] } → (actor : Sender) → own_by taken' parts actor ≡ cond (same_sender (Split split) actor) (left act (own_by taken parts actor)) (own_by taken parts actor)
+unfolding same_sender
+own_taken split taken taken' parts act counts is (Function address) = refl
+own_taken split taken taken' parts act counts is (Split n) = go (nat_eq split n) refl
+  where
+    as_split : ℕ → Own
+    as_split k = record { taken = k; cells = []; seen = 0; delays = [] }
+
+    go : (b : Bool) → nat_eq split n ≡ b → as_split (get_or taken' n 0) ≡ cond b (left act (own_by taken parts (Split n))) (own_by taken parts (Split n))
+    go true e =
+        let same : split ≡ n = eqb-true split n e in
+        subst (λ k. as_split (get_or taken' k 0) ≡ left act (own_by taken parts (Split k))) same (ap as_split counts.here ∙ sym is)
+    go false e = ap as_split (counts.others n (λ same. true≢false (sym (eq-eqb split n (sym same)) ∙ e)))
+
+-- counts that another vector keeps, and one more
+pub counted_from : (split : ℕ) (taken room taken' : List ℕ) → ((n : ℕ) → get_or room n 0 ≡ get_or taken n 0) → CountsOne split (λ (n : ℕ). get_or room n 0) (λ (n : ℕ). get_or taken' n 0) → CountsOne split (λ (n : ℕ). get_or taken n 0) (λ (n : ℕ). get_or taken' n 0)
+counted_from split taken room taken' same counts = record { here = counts.here ∙ ap (λ n. n + 1) (same split); others = λ other apart. counts.others other apart ∙ same other }
+
+not_split : (address : Address) (n : ℕ) → same_sender (Function address) (Split n) ≡ false
+unfolding same_sender
+not_split address n = refl
+
+pub own_changed : (address : Address) (taken : List ℕ) (parts parts' : Parts) (act : Act) → SetsAt (own_in parts) (own_in parts') address (left act (own_in parts address)) → (actor : Sender) → own_by taken parts' actor ≡ cond (same_sender (Function address) actor) (left act (own_by taken parts actor)) (own_by taken parts actor)
+own_changed address taken parts parts' act sets (Split n) = sym (ap (λ t. cond t (left act (own_by taken parts (Split n))) (own_by taken parts (Split n))) (not_split address n))
+own_changed address taken parts parts' act sets (Function b) = go (same_sender (Function address) (Function b)) refl
+  where
+    go : (t : Bool) → same_sender (Function address) (Function b) ≡ t → own_in parts' b ≡ cond t (left act (own_in parts b)) (own_in parts b)
+    go true e = subst (λ a. own_in parts' a ≡ left act (own_in parts a)) (same_function address b e) sets.here
+    go false e = sets.others b (λ same. true≢false (sym ((same_sender-Decides (Function address) (Function b)).1 (ap Function (sym same))) ∙ e))
+
+-- parts that keep what they have may stand in for others
+pub sets_between : (address : Address) (before first second after : Parts) (change : Own → Own) → ((other : Address) → own_in first other ≡ own_in before other) → SetsAt (own_in first) (own_in second) address (change (own_in first address)) → ((other : Address) → own_in after other ≡ own_in second other) → SetsAt (own_in before) (own_in after) address (change (own_in before address))
+sets_between address before first second after change same sets again = record {
+  here = again address ∙ sets.here ∙ ap change (same address);
+  others = λ other apart. again other ∙ sets.others other apart ∙ same other;
+}
 
 -- ---- states
 
 -- states are one where their parts are
-pub same_state : (a b : Machine) → ((split : ℕ) → get_or a.taken.items split 0 ≡ get_or b.taken.items split 0) → ((sender : Sender) (target : Address) → mail_of a.mail sender target ≡ mail_of b.mail sender target) → ((address : Address) → moment_in a.seen address ≡ moment_in b.seen address) → ((address : Address) (egress : TypeName) → egress_in a.egress address egress ≡ egress_in b.egress address egress) → state_of a ≡ state_of b
+pub same_state : (a b : Machine) → ((actor : Sender) → own_by a.taken.items a.parts actor ≡ own_by b.taken.items b.parts actor) → ((sender : Sender) (target : Address) → mail_of a.mail sender target ≡ mail_of b.mail sender target) → ((address : Address) (name : TypeName) → egress_in a.egress address name ≡ egress_in b.egress address name) → state_of a ≡ state_of b
 unfolding state_of
-same_state a b taken mail seen egress = λ i. record {
-  taken = λ split. taken split i;
-  mail = λ sender target. mail sender target i;
-  cells = λ address. [];
-  seen = λ address. seen address i;
-  delays = λ sender. [];
-  egress = λ address egress_name. egress address egress_name i;
-}
+same_state a b own mail egress = λ i. record { own = λ actor. own actor i; mail = λ sender target. mail sender target i; egress = λ address name. egress address name i }
 
-pub state_served : (reply : Reply) (response : InvocationResponse) (a b : Machine) → ((split : ℕ) → get_or b.taken.items split 0 ≡ get_or a.taken.items split 0) → ((sender : Sender) (target : Address) → mail_of b.mail sender target ≡ posted_all (unpicked reply.address reply.picks (mail_of a.mail)) (letters_from reply.address response.outgoing_messages) sender target) → ((address : Address) → moment_in b.seen address ≡ seen_after reply.address reply.moment (moment_in a.seen) address) → ((address : Address) (egress : TypeName) → egress_in b.egress address egress ≡ emitted reply.address response.outgoing_egresses (egress_in a.egress) address egress) → state_of b ≡ served reply response (state_of a)
-unfolding state_of served
-state_served reply response a b taken mail seen egress = λ i. record {
-  taken = λ split. taken split i;
-  mail = λ sender target. mail sender target i;
-  cells = λ address. [];
-  seen = λ address. seen address i;
-  delays = λ sender. [];
-  egress = λ address egress_name. egress address egress_name i;
-}
+pub state_acted : (step : Step) (act : Act) (a b : Machine) → ((actor : Sender) → own_by b.taken.items b.parts actor ≡ cond (same_sender (actor_of step) actor) (left act (own_by a.taken.items a.parts actor)) (own_by a.taken.items a.parts actor))
+    → ((sender : Sender) (target : Address) → mail_of b.mail sender target ≡ posted (unpicked (actor_of step) (leaving step) (mail_of a.mail)) act.letters sender target)
+    → ((address : Address) (name : TypeName) → egress_in b.egress address name ≡ given (egress_in a.egress) act.egress address name) → state_of b ≡ acted step act (state_of a)
+unfolding state_of
+state_acted step act a b own mail egress = λ i. record { own = λ actor. own actor i; mail = λ sender target. mail sender target i; egress = λ address name. egress address name i }
 
-pub state_took : (m : Module) (split : ℕ) (found : IngressRecord) (a b : Machine) → ((other : ℕ) → get_or b.taken.items other 0 ≡ taken_after split (λ other. get_or a.taken.items other 0) other) → ((sender : Sender) (target : Address) → mail_of b.mail sender target ≡ posted_all (mail_of a.mail) (letters_of m split found) sender target) → ((address : Address) → moment_in b.seen address ≡ moment_in a.seen address) → ((address : Address) (egress : TypeName) → egress_in b.egress address egress ≡ egress_in a.egress address egress) → state_of b ≡ took m split found (state_of a)
-unfolding state_of took
-state_took m split found a b taken mail seen egress = λ i. record {
-  taken = λ split. taken split i;
-  mail = λ sender target. mail sender target i;
-  cells = λ address. [];
-  seen = λ address. seen address i;
-  delays = λ sender. [];
-  egress = λ address egress_name. egress address egress_name i;
-}
+-- the same parts and counts
+pub own_kept : (taken taken' : List ℕ) (parts parts' : Parts) → ((n : ℕ) → get_or taken' n 0 ≡ get_or taken n 0) → ((address : Address) → own_in parts' address ≡ own_in parts address) → (actor : Sender) → own_by taken' parts' actor ≡ own_by taken parts actor
+own_kept taken taken' parts parts' counts same (Split n) = ap (λ (k : ℕ). record { taken = k; cells = []; seen = 0; delays = [] }) (counts n)
+own_kept taken taken' parts parts' counts same (Function address) = same address

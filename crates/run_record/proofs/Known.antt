@@ -1,27 +1,29 @@
 -- What is known on the way of a replay: lists over which the entries so far replay to the machine's state.
-use Rattle.std.proofs.Common.{◌≡◌, ◌∙◌, sym, ap, subst, refl, ℕ, ◌+◌, ◌<◌, ◌≤◌, zero, suc, List, [], ◌∷◌, ◌++◌, Bool, true, false, cond, take, length, get_or, slice_get, Option, Some, None, arith, append_assoc, append-nil, length-append, eq-eqb, ne_eqb, ⊎_elim}
+use Rattle.std.proofs.Common.{◌≡◌, ◌∙◌, sym, ap, subst, refl, ℕ, ◌+◌, ◌<◌, zero, suc, List, [], ◌∷◌, ◌++◌, Bool, true, false, cond, take, length, get_or, slice_get, Option, Some, None, arith, append_assoc, append-nil, length-append, eq-eqb, ne_eqb, ⊎_elim}
 use Rattle.std.specs.Prelude.{is_some, unwrap_or, nat_lt}
 use Rattle.std.proofs.lemmas.Bool.{cases_eq}
 use Rattle.std.proofs.lemmas.Option.{slice_get_past, slice_get_read}
-use Rattle.std.proofs.lemmas.List.{take_more, take_all}
+use Rattle.std.proofs.lemmas.List.{take_more}
 use Rattle.sf_outside.specs.declared.ingress.IngressRecord.{IngressRecord}
 use Rattle.sf_outside.specs.Splits.{Lists, record_at, split_of, GrowTo, Grows}
-use Rattle.run_record.specs.declared.module.Module.{Module}
+use Rattle.address_routing.specs.declared.module.Module.{Module}
 use Rattle.run_record.specs.declared.entry.Entry.{Entry}
 use Rattle.run_record.specs.declared.entry.Step.{Step}
-use Rattle.run_record.specs.declared.entry.Step.TheVariants.{Take, Batch}
-use Rattle.run_record.specs.declared.entry.Reply.{Reply}
-use Rattle.run_record.specs.declared.machine.Machine.{Machine}
-use Rattle.run_record.specs.declared.replaying.Replayed.TheVariants.{State as Reached, NotAllowed}
-use Rattle.run_record.specs.Routing.{splits_in}
-use Rattle.run_record.specs.Machine.{State, first_state, step_after, replayed, served, took, step_with, next_record}
-use Rattle.run_record.proofs.LawsOfSteps.{step_after-with, take_step-some, batch_step-some, replayed-grown, replayed_push_on}
-use Rattle.run_record.specs.StateOf.{state_of}
-use Rattle.run_record.specs.Replays.{AreListsOf, Replays, StepsOver}
+use Rattle.run_record.specs.declared.entry.Step.TheVariants.{Take, Batch, Register, Due}
+use Rattle.run_record.specs.declared.replaying.Replayed.TheVariants.{NotAllowed}
+use Rattle.address_routing.specs.Routing.{splits_in}
+use Rattle.typed_values.specs.declared.address.Address.{Address}
+use Rattle.typed_values.specs.declared.letter.Sender.TheVariants.{Split, Function}
+use Rattle.typed_values.specs.Sameness.{same_sender}
+use Rattle.run_record.specs.Machine.{State, first_state, actor_of, acted, left, took, made, step_with}
+use Rattle.run_record.specs.Record.{step_after, replayed}
+use Rattle.run_record.proofs.Steps.{take-nothing, step_with-some, replayed-grown, replayed_push_on}
+use Rattle.run_record.specs.Replays.{AreListsOf, ReadsNext, Replays, StepsOver}
+use Rattle.std.specs.Option.{option_map}
 
 -- the ingress' lists, where it tells them, or else the records that were taken
 abbrev pub Follow : Option Lists → Lists → State → Type 0
-Follow None lists st = (split : ℕ) → length (split_of lists split) ≡ st.taken split
+Follow None lists st = (split : ℕ) → length (split_of lists split) ≡ (st.own (Split split)).taken
 Follow (Some told) lists st = lists ≡ told
 
 pub record Known (told : Option Lists) (m : Module) (entries : List Entry) (st : State) : Type 0 where
@@ -76,82 +78,96 @@ withheld None a = refl
 withheld (Some x) a = absurd cc
 
 -- over lists that have the record there, the step is the one that was made
-over_lists : (m : Module) (lists : Lists) (st : State) (step : Step) (found : Option IngressRecord) → found ≡ next_record lists st step → step_after m lists st step ≡ step_with m found st step
-over_lists m lists st step found e = step_after-with m lists st step ∙ ap (λ f. step_with m f st step) (sym e)
+over_told : (m : Module) (told : Lists) (st : State) (step : Step) (found : Option IngressRecord) → ReadsNext (Some told) st (actor_of step) found → step_after m told st step ≡ step_with m found st step
+unfolding made
+over_told m told st (Take split) found reads = ap (λ f. step_with m f st (Take split)) (sym reads)
+over_told m told st (Batch reply) found reads = refl
+over_told m told st (Register reply) found reads = refl
+over_told m told st (Due address moment) found reads = refl
 
-batch_same : (m : Module) (lists : Lists) (st : State) (reply : Reply) (found : Option IngressRecord) → step_after m lists st (Batch reply) ≡ step_with m found st (Batch reply)
-unfolding step_with
-batch_same m lists st reply found = refl
-
--- a Take finds a record, or is not allowed
-take_nothing : (m : Module) (st : State) (split : ℕ) → step_with m None st (Take split) ≡ None
-unfolding step_with
-take_nothing m st split = by_test (nat_lt split (splits_in m.ingresses))
+-- what a take left is what it does
+took_is : (m : Module) (st next : State) (split : ℕ) (r : IngressRecord) → step_with m (Some r) st (Take split) ≡ Some next → next ≡ acted (Take split) (took m split (st.own (Split split)) r) st
+unfolding made
+took_is m st next split r e = by (nat_lt split (splits_in m.ingresses)) e
   where
-    by_test : (b : Bool) → ◌≡◌ {A = Option State} (cond b None None) None
-    by_test true = refl
-    by_test false = refl
+    by : (b : Bool) → option_map (λ act. acted (Take split) act st) (cond b (Some (took m split (st.own (Split split)) r)) None) ≡ Some next → next ≡ acted (Take split) (took m split (st.own (Split split)) r) st
+    by true h = let g : acted (Take split) (took m split (st.own (Split split)) r) st ≡ next = cc in sym g
+    by false h = absurd cc
 
 pub known_start : (told : Option Lists) (m : Module) (st : State) → st ≡ first_state → Known told m [] st
-known_start None m st e = record { lists = []; follow = λ split. ap (λ (x : State). x.taken split) (sym e); replays = ap Some (sym e) }
+known_start None m st e = record { lists = []; follow = λ split. ap (λ (x : State). (x.own (Split split)).taken) (sym e); replays = ap Some (sym e) }
 known_start (Some told) m st e = record { lists = told; follow = refl; replays = ap Some (sym e) }
 
 one_more : (m : Module) (old new : Lists) (st next : State) (entries : List Entry) (entry : Entry) → GrowTo old new → replayed m old first_state entries ≡ Some st → step_after m new st entry.step ≡ Some next → replayed m new first_state (entries ++ entry ∷ []) ≡ Some next
 one_more m old new st next entries entry grown so_far e =
     replayed_push_on m new first_state st entries entry (replayed-grown m old new first_state st entries grown so_far) ∙ e
 
-told_more : (m : Module) (old new lists : Lists) (st next : State) (entries : List Entry) (entry : Entry) (step : Step) → entry.step ≡ step → lists ≡ old → GrowTo old new → replayed m lists first_state entries ≡ Some st → StepsOver (Some new) m st step true next → replayed m new first_state (entries ++ entry ∷ []) ≡ Some next
-told_more m old new lists st next entries entry (Take split) which same grown so_far over =
-    one_more m old new st next entries entry grown (ap (λ l. replayed m l first_state entries) (sym same) ∙ so_far)
-    (ap (step_after m new st) which ∙ over_lists m new st (Take split) over.found over.reads ∙ given (step_with m over.found st (Take split)) st next over.is_allowed over.leaves)
-told_more m old new lists st next entries entry (Batch reply) which same grown so_far over =
-    one_more m old new st next entries entry grown (ap (λ l. replayed m l first_state entries) (sym same) ∙ so_far)
-    (ap (step_after m new st) which ∙ batch_same m new st reply over.found ∙ given (step_with m over.found st (Batch reply)) st next over.is_allowed over.leaves)
+-- no record of a split was taken
+untaken : (m : Module) (lists : Lists) (st next : State) (entries : List Entry) (entry : Entry) → ((other : ℕ) → length (split_of lists other) ≡ (st.own (Split other)).taken) → ((other : ℕ) → (next.own (Split other)).taken ≡ (st.own (Split other)).taken)
+    → replayed m lists first_state entries ≡ Some st → step_after m lists st entry.step ≡ Some next → Known None m (entries ++ entry ∷ []) next
+untaken m lists st next entries entry counts same so_far step = record {
+  lists = lists;
+  follow = λ other. counts other ∙ sym (same other);
+  replays = one_more m lists lists st next entries entry (λ split. ([], sym (append-nil (split_of lists split)))) so_far step;
+}
+
+-- a step of a function leaves the counts of splits
+counts_stay : (m : Module) (found : Option IngressRecord) (st next : State) (step : Step) (address : Address) → actor_of step ≡ Function address → step_with m found st step ≡ Some next → (other : ℕ) → (next.own (Split other)).taken ≡ (st.own (Split other)).taken
+unfolding same_sender
+counts_stay m found st next step address by e other =
+    let is = step_with-some m found st next step e in
+    ap (λ (x : State). (x.own (Split other)).taken) is.2
+    ∙ ap (λ actor. (cond (same_sender actor (Split other)) (left is.0 (st.own (Split other))) (st.own (Split other))).taken) by
 
 -- the counts of the lists, where one record more of a split was taken
-counts_more : (m : Module) (lists : Lists) (split : ℕ) (r : IngressRecord) (st next : State) → ((other : ℕ) → length (split_of lists other) ≡ st.taken other) → step_after m (added lists split r) st (Take split) ≡ Some next → (other : ℕ) → length (split_of (added lists split r) other) ≡ next.taken other
-unfolding took
+counts_more : (m : Module) (lists : Lists) (split : ℕ) (r : IngressRecord) (st next : State) → ((other : ℕ) → length (split_of lists other) ≡ (st.own (Split other)).taken) → next ≡ acted (Take split) (took m split (st.own (Split split)) r) st → (other : ℕ) → length (split_of (added lists split r) other) ≡ (next.own (Split other)).taken
+unfolding same_sender
 counts_more m lists split r st next counts e other =
-    let taken = take_step-some m (added lists split r) split st next e in
     ⊎_elim
-    (λ (same : split ≡ other). subst (λ s. length (split_of (added lists split r) s) ≡ next.taken s) same
+    (λ (same : split ≡ other). subst (λ s. length (split_of (added lists split r) s) ≡ (next.own (Split s)).taken) same
     (ap length (added-here lists split r) ∙ length-append (split_of lists split) (r ∷ []) ∙ ap (λ n. n + 1) (counts split)
-    ∙ sym (ap (λ (x : State). x.taken split) taken.leaves ∙ ap (λ b. cond b (st.taken split + 1) (st.taken split)) (eq-eqb split split refl))))
+    ∙ sym (ap (λ (x : State). (x.own (Split split)).taken) e ∙ ap (λ b. (cond b (left (took m split (st.own (Split split)) r) (st.own (Split split))) (st.own (Split split))).taken) (eq-eqb split split refl))))
     (λ (apart : split ≡ other → ⊥). ap length (added-beside lists split r other apart) ∙ counts other
-    ∙ sym (ap (λ (x : State). x.taken other) taken.leaves ∙ ap (λ b. cond b (st.taken other + 1) (st.taken other)) (ne_eqb split other apart)))
+    ∙ sym (ap (λ (x : State). (x.own (Split other)).taken) e ∙ ap (λ b. (cond b (left (took m split (st.own (Split split)) r) (st.own (Split other))) (st.own (Split other))).taken) (ne_eqb split other apart)))
     (cases_eq split other)
 
-untold_take : (m : Module) (lists : Lists) (st next : State) (entries : List Entry) (entry : Entry) (split : ℕ) (found : Option IngressRecord) → entry.step ≡ Take split → ((other : ℕ) → length (split_of lists other) ≡ st.taken other) → replayed m lists first_state entries ≡ Some st → step_with m found st (Take split) ≡ Some next → Known None m (entries ++ entry ∷ []) next
-untold_take m lists st next entries entry split None which counts so_far e = absurd (let n = take_nothing m st split in cc)
+untold_take : (m : Module) (lists : Lists) (st next : State) (entries : List Entry) (entry : Entry) (split : ℕ) (found : Option IngressRecord) → entry.step ≡ Take split → ((other : ℕ) → length (split_of lists other) ≡ (st.own (Split other)).taken) → replayed m lists first_state entries ≡ Some st → step_with m found st (Take split) ≡ Some next → Known None m (entries ++ entry ∷ []) next
+untold_take m lists st next entries entry split None which counts so_far e = absurd (let n = take-nothing m st split in cc)
 untold_take m lists st next entries entry split (Some r) which counts so_far e =
-    let there : record_at (added lists split r) split (st.taken split) ≡ Some r = ap (λ list. slice_get list (st.taken split)) (added-here lists split r) ∙ at_end (split_of lists split) r (st.taken split) (counts split) in
-    let made : step_after m (added lists split r) st (Take split) ≡ Some next = over_lists m (added lists split r) st (Take split) (Some r) (sym there) ∙ e in
+    let there : record_at (added lists split r) split (st.own (Split split)).taken ≡ Some r = ap (λ list. slice_get list (st.own (Split split)).taken) (added-here lists split r) ∙ at_end (split_of lists split) r (st.own (Split split)).taken (counts split) in
+    let now : step_after m (added lists split r) st (Take split) ≡ Some next = over_told m (added lists split r) st (Take split) (Some r) (sym there) ∙ e in
     record {
       lists = added lists split r;
-      follow = counts_more m lists split r st next counts made;
-      replays = one_more m lists (added lists split r) st next entries entry (added-grows lists split r) so_far (ap (step_after m (added lists split r) st) which ∙ made);
-    }
-
-untold_batch : (m : Module) (lists : Lists) (st next : State) (entries : List Entry) (entry : Entry) (reply : Reply) → entry.step ≡ Batch reply → ((other : ℕ) → length (split_of lists other) ≡ st.taken other) → replayed m lists first_state entries ≡ Some st → step_after m lists st (Batch reply) ≡ Some next → Known None m (entries ++ entry ∷ []) next
-unfolding served
-untold_batch m lists st next entries entry reply which counts so_far made =
-    record {
-      lists = lists;
-      follow = λ other. counts other ∙ sym (ap (λ (x : State). x.taken other) (batch_step-some m reply st next made).leaves);
-      replays = one_more m lists lists st next entries entry (λ split. ([], sym (append-nil (split_of lists split)))) so_far (ap (step_after m lists st) which ∙ made);
+      follow = counts_more m lists split r st next counts (took_is m st next split r e);
+      replays = one_more m lists (added lists split r) st next entries entry (added-grows lists split r) so_far (ap (step_after m (added lists split r) st) which ∙ now);
     }
 
 untold_more : (m : Module) (st next : State) (entries : List Entry) (entry : Entry) (step : Step) → entry.step ≡ step → Known None m entries st → StepsOver None m st step true next → Known None m (entries ++ entry ∷ []) next
 untold_more m st next entries entry (Take split) which known over =
     untold_take m known.lists st next entries entry split over.found which known.follow known.replays (given (step_with m over.found st (Take split)) st next over.is_allowed over.leaves)
 untold_more m st next entries entry (Batch reply) which known over =
-    untold_batch m known.lists st next entries entry reply which known.follow known.replays (batch_same m known.lists st reply over.found ∙ given (step_with m over.found st (Batch reply)) st next over.is_allowed over.leaves)
+    let e = given (step_with m over.found st (Batch reply)) st next over.is_allowed over.leaves in
+    untaken m known.lists st next entries entry known.follow (counts_stay m over.found st next (Batch reply) reply.address refl e) known.replays
+    (ap (step_after m known.lists st) which ∙ over_told m known.lists st (Batch reply) over.found tt ∙ e)
+untold_more m st next entries entry (Register reply) which known over =
+    let e = given (step_with m over.found st (Register reply)) st next over.is_allowed over.leaves in
+    untaken m known.lists st next entries entry known.follow (counts_stay m over.found st next (Register reply) reply.address refl e) known.replays
+    (ap (step_after m known.lists st) which ∙ over_told m known.lists st (Register reply) over.found tt ∙ e)
+untold_more m st next entries entry (Due address moment) which known over =
+    let e = given (step_with m over.found st (Due address moment)) st next over.is_allowed over.leaves in
+    untaken m known.lists st next entries entry known.follow (counts_stay m over.found st next (Due address moment) address refl e) known.replays
+    (ap (step_after m known.lists st) which ∙ over_told m known.lists st (Due address moment) over.found tt ∙ e)
 
 -- one more entry, whose step was allowed
 pub known_more : (before told : Option Lists) (m : Module) (st next : State) (entries : List Entry) (entry : Entry) → Grows before told → Known before m entries st → StepsOver told m st entry.step true next → Known told m (entries ++ entry ∷ []) next
 known_more None None m st next entries entry grown known over = untold_more m st next entries entry entry.step refl known over
 known_more (Some old) (Some new) m st next entries entry grown known over =
-    record { lists = new; follow = refl; replays = told_more m old new known.lists st next entries entry entry.step refl known.follow grown known.replays over }
+    record {
+      lists = new;
+      follow = refl;
+      replays = one_more m old new st next entries entry grown (ap (λ l. replayed m l first_state entries) (sym known.follow) ∙ known.replays)
+          (over_told m new st entry.step over.found over.reads ∙ given (step_with m over.found st entry.step) st next over.is_allowed over.leaves);
+    }
 known_more None (Some new) m st next entries entry grown known over = absurd grown
 known_more (Some old) None m st next entries entry grown known over = absurd grown
 
@@ -164,13 +180,14 @@ pub record Stuck (told : Option Lists) (m : Module) (entries : List Entry) (st :
   pub refused : step_after m lists st step ≡ None
 
 not_over : (told : Lists) (m : Module) (st next : State) (step : Step) → StepsOver (Some told) m st step false next → step_after m told st step ≡ None
-not_over told m st next (Take split) over = over_lists m told st (Take split) over.found over.reads ∙ withheld (step_with m over.found st (Take split)) over.is_allowed
-not_over told m st next (Batch reply) over = batch_same m told st reply over.found ∙ withheld (step_with m over.found st (Batch reply)) over.is_allowed
+not_over told m st next step over = over_told m told st step over.found over.reads ∙ withheld (step_with m over.found st step) over.is_allowed
 
-not_untold : (lists : Lists) (m : Module) (st next : State) (step : Step) → ((split : ℕ) → length (split_of lists split) ≡ st.taken split) → StepsOver None m st step false next → step_after m lists st step ≡ None
+not_untold : (lists : Lists) (m : Module) (st next : State) (step : Step) → ((split : ℕ) → length (split_of lists split) ≡ (st.own (Split split)).taken) → StepsOver None m st step false next → step_after m lists st step ≡ None
 not_untold lists m st next (Take split) counts over =
-    over_lists m lists st (Take split) None (sym (slice_get_past (split_of lists split) (st.taken split) (omega (arith, counts split)))) ∙ take_nothing m st split
-not_untold lists m st next (Batch reply) counts over = batch_same m lists st reply over.found ∙ withheld (step_with m over.found st (Batch reply)) over.is_allowed
+    over_told m lists st (Take split) None (sym (slice_get_past (split_of lists split) (st.own (Split split)).taken (omega (arith, counts split)))) ∙ take-nothing m st split
+not_untold lists m st next (Batch reply) counts over = over_told m lists st (Batch reply) over.found tt ∙ withheld (step_with m over.found st (Batch reply)) over.is_allowed
+not_untold lists m st next (Register reply) counts over = over_told m lists st (Register reply) over.found tt ∙ withheld (step_with m over.found st (Register reply)) over.is_allowed
+not_untold lists m st next (Due address moment) counts over = over_told m lists st (Due address moment) over.found tt ∙ withheld (step_with m over.found st (Due address moment)) over.is_allowed
 
 pub known_stuck : (before told : Option Lists) (m : Module) (st next : State) (entries : List Entry) (step : Step) → Grows before told → Known before m entries st → StepsOver told m st step false next → Stuck told m entries st step
 known_stuck None None m st next entries step grown known over =

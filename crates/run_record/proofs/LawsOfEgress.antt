@@ -1,84 +1,116 @@
--- The egress of a record is the egress of the state that it replays to.
-use Rattle.std.specs.Prelude.{◌≡◌, List, [], ◌∷◌, ◌++◌, Bool, true, false, cond, ◌&&◌, Some, map, filter, refl}
-use Rattle.std.proofs.Common.{sym, ◌∙◌, ap, append_assoc, append-nil}
-use Rattle.std.proofs.lemmas.List.{map-append}
+-- What a machine keeps of the egress is what the record's answers spell.
+use Rattle.std.proofs.Common.{◌≡◌, ◌∙◌, sym, ap, refl, ℕ, nat_lt, List, [], ◌∷◌, ◌++◌, length, Bool, true, false, cond, map, filter, Option, Some, None, Result, Ok, Err, option_map, append_assoc, append-nil}
+use Rattle.std.specs.Option.{option_map_or}
 use Rattle.std.proofs.lemmas.Option.{same_Some}
-use Rattle.std.proofs.lemmas.List.Concat.{flat_map-append}
+use Rattle.std.proofs.lemmas.List.{map-append}
 use Rattle.std.proofs.lemmas.List.Elements.{filter-append}
+use Rattle.proto_wire.specs.declared.fault.WireFault.{WireFault}
 use Rattle.typed_values.specs.declared.name.TypeName.{TypeName}
 use Rattle.typed_values.specs.declared.address.Address.{Address}
 use Rattle.typed_values.specs.declared.value.TypedValue.{TypedValue}
 use Rattle.typed_values.specs.declared.record.EgressRecord.{EgressRecord}
-use Rattle.typed_values.specs.Sameness.{same_name, same_address}
+use Rattle.typed_values.specs.declared.cells.Cell.{Cell}
+use Rattle.typed_values.specs.Delays.{due_at}
+use Rattle.sf_outside.specs.declared.ingress.IngressRecord.{IngressRecord}
 use Rattle.sf_outside.specs.Splits.{Lists}
-use Rattle.request_reply.specs.declared.answer.EgressMessage.{EgressMessage}
-use Rattle.run_record.specs.declared.module.Module.{Module}
+use Rattle.request_reply.specs.declared.answer.FromFunction.{FromFunction}
+use Rattle.request_reply.specs.declared.answer.FromFunction.TheVariants as answers
+use Rattle.request_reply.specs.declared.flaw.Flaw.{Flaw}
+use Rattle.request_reply.specs.declared.judging.Judgement.TheVariants as judgements
+use Rattle.request_reply.specs.Flaws.{answer_flaw, wire_flaw, too_long}
+use Rattle.request_reply.specs.Valid.{asked, unless, read_verdict, verdict}
+use Rattle.request_reply.specs.Spelling.{from_value}
+use Rattle.address_routing.specs.declared.module.Module.{Module}
+use Rattle.address_routing.specs.Routing.{splits_in}
+use Rattle.invocation.specs.declared.judging.Judged.{Judged}
+use Rattle.invocation.specs.declared.judging.Judged.TheVariants as judged_as
+use Rattle.invocation.specs.Effects.{effects_of}
+use Rattle.invocation.specs.Judging.{setting_of, done_by, judgement}
 use Rattle.run_record.specs.declared.entry.Entry.{Entry}
 use Rattle.run_record.specs.declared.entry.Step.{Step}
-use Rattle.run_record.specs.declared.entry.Step.TheVariants.{Take, Batch}
-use Rattle.run_record.specs.Machine.{State, first_state, emitted, egress_name, argument_of, served, step_after, replayed, took}
-use Rattle.run_record.specs.Backed.{calls_of, calls_of_step}
-use Rattle.run_record.specs.Egress.{egress_record, records_judged, records_of_step, egress_of, is_between, arguments_at}
-use Rattle.run_record.proofs.LawsOfSteps.{take_step-some, batch_step-some, some_from_and_then}
+use Rattle.run_record.specs.declared.entry.Step.TheVariants.{Take, Batch, Register, Due}
+use Rattle.run_record.specs.declared.entry.Reply.{Reply}
+use Rattle.run_record.specs.Machine.{Own, State, Act, actor_of, reply_of, arguments_at, is_between, took, sent_later, judged, batch_act, register_act, act_of, acted}
+use Rattle.run_record.specs.Record.{next_record, replayed}
+use Rattle.run_record.specs.Egress.{records_spelled, records_of_reply, egress_of}
+use Rattle.run_record.proofs.Steps.{made-some, some_from_map}
+use Rattle.run_record.proofs.LawsOfOwn.{first_of}
 
-pub arguments_at-append : (address : Address) (egress : TypeName) (records others : List EgressRecord) → arguments_at address egress (records ++ others) ≡ arguments_at address egress records ++ arguments_at address egress others
-unfolding arguments_at
-arguments_at-append address egress records others =
-    ap (map (λ (r : EgressRecord). r.argument)) (filter-append (is_between address egress) records others)
-    ∙ map-append (λ (r : EgressRecord). r.argument) (filter (is_between address egress) records) (filter (is_between address egress) others)
+-- what an answer gives to egresses, by what it is judged to be
+egress_judged : Judged → List EgressRecord
+egress_judged (judged_as.Accept effects) = effects.egress
+egress_judged (judged_as.Register specs) = []
+egress_judged (judged_as.Flaw flaw) = []
 
--- a message's part of both sides
-messages_of : (b : Bool) (sender : Address) (egress : TypeName) (messages : List EgressMessage) → map (λ (r : EgressRecord). r.argument) (filter (λ r. b && same_name r.egress egress) (map (egress_record sender) messages)) ≡ cond b (map (λ message. argument_of message.argument) (filter (λ message. same_name (egress_name message) egress) messages)) []
-messages_of false sender egress [] = refl
-messages_of true sender egress [] = refl
-messages_of false sender egress (message ∷ messages) = messages_of false sender egress messages
-messages_of true sender egress (message ∷ messages) = here _ _ (same_name (egress_name message) egress) (messages_of true sender egress messages)
+-- whether it is valid
+is_valid : Judged → Type 0
+is_valid (judged_as.Accept effects) = Unit {0}
+is_valid (judged_as.Register specs) = Unit {0}
+is_valid (judged_as.Flaw flaw) = ⊥
+
+spelled : (m : Module) (cells : List Cell) (address : Address) (moment : ℕ) (answer : List ℕ) → is_valid (judgement m cells address moment answer) → records_spelled address (from_value answer) ≡ egress_judged (judgement m cells address moment answer)
+unfolding judgement verdict read_verdict effects_of egress_judged is_valid
+spelled m cells address moment answer = by_length (nat_lt 4194304 (length answer)) (from_value answer)
   where
-    here : (xs : List EgressRecord) (ys : List EgressMessage) (b : Bool) → map (λ (r : EgressRecord). r.argument) xs ≡ map (λ (message : EgressMessage). argument_of message.argument) ys → map (λ (r : EgressRecord). r.argument) (cond b (egress_record sender message ∷ xs) xs) ≡ map (λ (message : EgressMessage). argument_of message.argument) (cond b (message ∷ ys) ys)
-    here xs ys true h = ap (λ rest. argument_of message.argument ∷ rest) h
-    here xs ys false h = h
+    by_flaw : (o : Option Flaw) (read : FromFunction) → is_valid (done_by address moment (unless o (asked (setting_of m cells) read))) → records_spelled address (Ok read) ≡ egress_judged (done_by address moment (unless o (asked (setting_of m cells) read)))
+    by_flaw None (answers.Result response) valid = refl
+    by_flaw None (answers.Incomplete context) valid = refl
+    by_flaw (Some flaw) read valid = absurd valid
 
-same_filters : {A B : Type 0} (p q : B → Bool) (f : A → B) (xs : List A) → ((x : A) → p (f x) ≡ q (f x)) → filter p (map f xs) ≡ filter q (map f xs)
-same_filters p q f [] e = refl
-same_filters p q f (x ∷ xs) e = λ i. cond (e x i) (f x ∷ same_filters p q f xs e i) (same_filters p q f xs e i)
+    by_length : (long : Bool) (read : Result FromFunction WireFault) → is_valid (done_by address moment (cond long (judgements.Flaw (wire_flaw too_long)) (read_verdict (setting_of m cells) read))) → records_spelled address read ≡ egress_judged (done_by address moment (cond long (judgements.Flaw (wire_flaw too_long)) (read_verdict (setting_of m cells) read)))
+    by_length true read valid = absurd valid
+    by_length false (Err fault) valid = absurd valid
+    by_length false (Ok read) valid = by_flaw (answer_flaw (setting_of m cells) read) read valid
 
--- what an answer emits for an address and an egress: its records of the two, behind those that were there
-pub emitted_is : (sender : Address) (messages : List EgressMessage) (before : Address → TypeName → List TypedValue) (address : Address) (egress : TypeName) → emitted sender messages before address egress ≡ before address egress ++ arguments_at address egress (map (egress_record sender) messages)
-unfolding arguments_at
-emitted_is sender messages before address egress = by_test (same_address sender address) ∙ ap (λ xs. before address egress ++ xs) (sym (ap (map (λ (r : EgressRecord). r.argument)) (same_filters (is_between address egress) (λ r. same_address sender address && same_name r.egress egress) (egress_record sender) messages (λ message. refl)) ∙ messages_of (same_address sender address) sender egress messages))
+batch_egress : (m : Module) (own : Own) (reply : Reply) (act : Act) → batch_act reply (judged m own reply) own ≡ Some act → act.egress ≡ records_of_reply reply
+unfolding egress_judged is_valid
+batch_egress m own reply act e = by (judged m own reply) (spelled m own.cells reply.address reply.moment reply.answer) e
   where
-    by_test : (b : Bool) → cond b (before address egress ++ map (λ message. argument_of message.argument) (filter (λ message. same_name (egress_name message) egress) messages)) (before address egress) ≡ before address egress ++ cond b (map (λ message. argument_of message.argument) (filter (λ message. same_name (egress_name message) egress) messages)) []
-    by_test true = refl
-    by_test false = sym (append-nil (before address egress))
+    by : (j : Judged) → (is_valid j → records_of_reply reply ≡ egress_judged j) → batch_act reply j own ≡ Some act → act.egress ≡ records_of_reply reply
+    by (judged_as.Accept effects) is f = sym (ap (λ (o : Option Act). option_map_or (λ (a : Act). a.egress) o []) f) ∙ sym (is tt)
+    by (judged_as.Register specs) is f = absurd cc
+    by (judged_as.Flaw flaw) is f = absurd cc
 
-step_egress : (m : Module) (lists : Lists) (st next : State) (step : Step) → step_after m lists st step ≡ Some next → (address : Address) (egress : TypeName) → next.egress address egress ≡ st.egress address egress ++ arguments_at address egress (records_of_step m step)
-unfolding took served arguments_at
-step_egress m lists st next (Take split) h address egress =
-    let taken = take_step-some m lists split st next h in
-    ap (λ (x : State). x.egress address egress) taken.leaves ∙ sym (append-nil (st.egress address egress))
-step_egress m lists st next (Batch reply) h address egress =
-    let is = batch_step-some m reply st next h in
-    ap (λ (x : State). x.egress address egress) is.leaves
-    ∙ emitted_is reply.address is.response.outgoing_egresses st.egress address egress
-    ∙ ap (λ judged. st.egress address egress ++ arguments_at address egress (records_judged reply.address judged)) (sym is.accepted)
+register_egress : (m : Module) (own : Own) (reply : Reply) (act : Act) → register_act reply (judged m own reply) own ≡ Some act → act.egress ≡ records_of_reply reply
+unfolding egress_judged is_valid
+register_egress m own reply act e = by (judged m own reply) (spelled m own.cells reply.address reply.moment reply.answer) e
+  where
+    by : (j : Judged) → (is_valid j → records_of_reply reply ≡ egress_judged j) → register_act reply j own ≡ Some act → act.egress ≡ records_of_reply reply
+    by (judged_as.Accept effects) is f = absurd cc
+    by (judged_as.Register specs) is f = sym (ap (λ (o : Option Act). option_map_or (λ (a : Act). a.egress) o []) f) ∙ sym (is tt)
+    by (judged_as.Flaw flaw) is f = absurd cc
 
--- a record gives each pair of address and egress its own records of that pair, behind those that were there
-pub egress_of-replayed : (m : Module) (lists : Lists) (st last : State) (entries : List Entry) → replayed m lists st entries ≡ Some last → (address : Address) (egress : TypeName) → last.egress address egress ≡ st.egress address egress ++ arguments_at address egress (egress_of m entries)
-unfolding egress_of arguments_at
-egress_of-replayed m lists st last [] h address egress = ap (λ (x : State). x.egress address egress) (sym (same_Some st last h)) ∙ sym (append-nil (st.egress address egress))
-egress_of-replayed m lists st last (entry ∷ entries) h address egress =
-    let first = some_from_and_then (λ next. replayed m lists next entries) (step_after m lists st entry.step) last h in
-    let here = step_egress m lists st first.0 entry.step first.1 address egress in
-    let rest = egress_of-replayed m lists first.0 last entries first.2 address egress in
-    rest
-    ∙ ap (λ xs. xs ++ arguments_at address egress (egress_of m entries)) here
-    ∙ append_assoc (st.egress address egress) (arguments_at address egress (records_of_step m entry.step)) (arguments_at address egress (egress_of m entries))
-    ∙ ap (λ xs. st.egress address egress ++ xs) (sym (arguments_at-append address egress (records_of_step m entry.step) (egress_of m entries)))
+-- a step gives what its answer spells
+act_egress : (m : Module) (found : Option IngressRecord) (own : Own) (step : Step) (act : Act) → act_of m found own step ≡ Some act → act.egress ≡ option_map_or records_of_reply (reply_of step) []
+act_egress m found own (Take split) act h = by (nat_lt split (splits_in m.ingresses)) h
+  where
+    by : (b : Bool) → cond b (option_map (took m split own) found) None ≡ Some act → act.egress ≡ []
+    by true e = ap (λ (a : Act). a.egress) (some_from_map (took m split own) found act e).2
+    by false e = absurd cc
+act_egress m found own (Batch reply) act h = batch_egress m own reply act h
+act_egress m found own (Register reply) act h = register_egress m own reply act h
+act_egress m found own (Due address moment) act h = ap (λ (a : Act). a.egress) (some_from_map (sent_later address moment own) (due_at moment own.delays) act h).2
 
--- from the first state: the egress of the state is that of the record
-pub egress_of-first : (m : Module) (lists : Lists) (last : State) (entries : List Entry) → replayed m lists first_state entries ≡ Some last → (address : Address) (egress : TypeName) → last.egress address egress ≡ arguments_at address egress (egress_of m entries)
-egress_of-first m lists last entries h address egress = egress_of-replayed m lists first_state last entries h address egress
+arguments_at-append : (address : Address) (name : TypeName) (records others : List EgressRecord) → arguments_at address name (records ++ others) ≡ arguments_at address name records ++ arguments_at address name others
+unfolding arguments_at
+arguments_at-append address name records others =
+    ap (map (λ (r : EgressRecord). r.argument)) (filter-append (is_between address name) records others)
+    ∙ map-append (λ (r : EgressRecord). r.argument) (filter (is_between address name) records) (filter (is_between address name) others)
 
-pub calls_of-append : (entries others : List Entry) → calls_of (entries ++ others) ≡ calls_of entries ++ calls_of others
-calls_of-append [] others = refl
-calls_of-append (entry ∷ entries) others = ap (λ xs. calls_of_step entry.step ++ xs) (calls_of-append entries others) ∙ sym (append_assoc (calls_of_step entry.step) (calls_of entries) (calls_of others))
+none_at : (address : Address) (name : TypeName) (xs : List TypedValue) → xs ++ arguments_at address name [] ≡ xs
+unfolding arguments_at
+none_at address name xs = append-nil xs
+
+pub egress-is : (m : Module) (lists : Lists) (st last : State) (entries : List Entry) → replayed m lists st entries ≡ Some last → (address : Address) (name : TypeName) → last.egress address name ≡ st.egress address name ++ arguments_at address name (egress_of entries)
+unfolding egress_of
+egress-is m lists st last [] h address name = ap (λ (x : State). x.egress address name) (sym (same_Some st last h)) ∙ sym (none_at address name (st.egress address name))
+egress-is m lists st last (entry ∷ entries) h address name =
+    let first = first_of m lists st last entry entries h in
+    let next = acted entry.step first.act st in
+    let found = next_record lists (actor_of entry.step) (st.own (actor_of entry.step)) in
+    let is = made-some m found st entry.step first.act first.does in
+    let mine = option_map_or records_of_reply (reply_of entry.step) [] in
+    egress-is m lists next last entries first.more address name
+    ∙ ap (λ xs. (st.egress address name ++ arguments_at address name xs) ++ arguments_at address name (egress_of entries)) (act_egress m found (st.own (actor_of entry.step)) entry.step first.act is.does)
+    ∙ append_assoc (st.egress address name) (arguments_at address name mine) (arguments_at address name (egress_of entries))
+    ∙ ap (λ xs. st.egress address name ++ xs) (sym (arguments_at-append address name mine (egress_of entries)))

@@ -1,9 +1,11 @@
-pub mod Queues
-pub mod Keys
-pub mod Routing
+pub mod Letters
 pub mod Machine
+pub mod Record
 pub mod Backed
 pub mod Egress
 pub mod Deliveries
+pub mod Histories
 pub mod StateOf
 pub mod Replays
+pub mod Actors
+pub mod Spelled

@@ -1,19 +1,21 @@
 -- What a replay answers, and over which lists.
 use Rattle.std.specs.Prelude.{◌≡◌, ℕ, ◌≤◌, Bool, List, take, slice_get, is_some, unwrap_or, Option, Some, None, Result, Ok, Err}
+use Rattle.typed_values.specs.declared.letter.Sender.{Sender}
+use Rattle.typed_values.specs.declared.letter.Sender.TheVariants.{Split, Function}
 use Rattle.sf_outside.specs.declared.ingress.IngressRecord.{IngressRecord}
 use Rattle.sf_outside.specs.declared.fault.Fault.{Fault}
 use Rattle.sf_outside.specs.declared.fault.Fault.TheVariants.{Failed, OutOfMemory as Refused}
 use Rattle.sf_outside.specs.Splits.{Lists, Reads}
 use Rattle.sf_outside.specs.Told.{Rose}
-use Rattle.run_record.specs.declared.module.Module.{Module}
+use Rattle.address_routing.specs.declared.module.Module.{Module}
 use Rattle.run_record.specs.declared.entry.Entry.{Entry}
 use Rattle.run_record.specs.declared.entry.Step.{Step}
-use Rattle.run_record.specs.declared.entry.Step.TheVariants.{Take, Batch}
 use Rattle.run_record.specs.declared.replaying.Replayed.{Replayed}
 use Rattle.run_record.specs.declared.replaying.Replayed.TheVariants.{State as Reached, NotAllowed}
 use Rattle.run_record.specs.declared.replaying.ReplayFault.{ReplayFault}
 use Rattle.run_record.specs.declared.replaying.ReplayFault.TheVariants.{IngressFault, OutOfMemory}
-use Rattle.run_record.specs.Machine.{State, first_state, step_after, replayed, step_with}
+use Rattle.run_record.specs.Machine.{State, first_state, actor_of, step_with}
+use Rattle.run_record.specs.Record.{step_after, replayed}
 use Rattle.run_record.specs.StateOf.{state_of}
 
 -- lists that may be those of an ingress: its own, where it tells them
@@ -40,15 +42,15 @@ pub record Replays (told : Option Lists) (m : Module) (entries : List Entry) (re
   pub are : AreListsOf told lists
   pub is : IsReplayed m lists entries replay
 
--- the record that a step takes is what the lists have there
-abbrev pub ReadsNext : Option Lists → State → Step → Option IngressRecord → Type 0
-ReadsNext told st (Take split) found = Reads told split (st.taken split) found
-ReadsNext told st (Batch reply) found = Unit {0}
+-- the record that an actor takes next is what the lists have there
+abbrev pub ReadsNext : Option Lists → State → Sender → Option IngressRecord → Type 0
+ReadsNext told st (Split split) found = Reads told split (st.own (Split split)).taken found
+ReadsNext told st (Function address) found = Unit {0}
 
 -- a step is made over what was read: it is allowed or not, and leaves this state
 pub record StepsOver (told : Option Lists) (m : Module) (st : State) (step : Step) (allowed : Bool) (next : State) : Type 0 where
   pub found : Option IngressRecord
-  pub reads : ReadsNext told st step found
+  pub reads : ReadsNext told st (actor_of step) found
   pub is_allowed : allowed ≡ is_some (step_with m found st step)
   pub leaves : next ≡ unwrap_or (step_with m found st step) st
 

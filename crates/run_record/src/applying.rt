@@ -1,19 +1,23 @@
 //! Steps of the machine.
-ghost use Rattle.std.specs.Prelude.{◌≡◌, IfOk, OnOk, OnErr, is_some, unwrap_or, nat_lt};
+ghost use Rattle.std.specs.Prelude.{◌≡◌, IfOk, OnOk, OnErr, Option, is_some, unwrap_or, nat_lt};
+ghost use Rattle.sf_outside.specs.declared.ingress.IngressRecord.{IngressRecord};
 ghost use Rattle.std.specs.Option.{option_copied};
-ghost use Rattle.run_record.specs.declared.entry.Step.TheVariants.{Take, Batch};
-ghost use Rattle.run_record.specs.Routing.{splits_in};
-ghost use Rattle.run_record.specs.Machine.{batch_step, step_with, HasRoom};
+ghost use Rattle.address_routing.specs.Routing.{splits_in};
+ghost use Rattle.run_record.specs.declared.entry.Step.TheVariants.{Take, Batch, Register, Due};
+ghost use Rattle.run_record.specs.Machine.{actor_of, step_with};
+ghost use Rattle.run_record.specs.Record.{HasRoom};
 ghost use Rattle.run_record.specs.StateOf.{state_of};
 
-use crate::effects::{serve, take_record};
+use crate::effects::{register, send_due, serve, take_record};
 use crate::machine::Machine;
-use crate::requesting::request_for;
-use crate::{Entry, IngressSpec, Reply, Routes, Step};
+use crate::requesting::judged_reply;
+use crate::{Entry, Reply, Step};
+use address_routing::{IngressSpec, Routes};
+use invocation::Judged;
 use proto_wire::Mem;
-use request_reply::{Judged, judge};
 use sf_outside::IngressRecord;
 use std::alloc::Global;
+use typed_values::Address;
 
 /// Whether some ingresses have a split of this number.
 fn has_split(ingresses: &[IngressSpec], split: u32) -> bool
@@ -30,7 +34,6 @@ fn has_split(ingresses: &[IngressSpec], split: u32) -> bool
 }
 
 /// Takes the next record of a split, where the split is one of the module's and there is such a record.
-#[tactic(auto, unfolding(crate::specs::Machine::step_with))]
 fn apply_take(
     alloc: Global,
     machine: &mut Machine,
@@ -38,7 +41,7 @@ fn apply_take(
     split: u32,
     taken: Option<&IngressRecord>,
 ) -> Mem<bool>
-    requires { HasRoom (Take split) (option_copied taken) (state_of machine.old) }
+    requires { HasRoom (actor_of (Take split)) (option_copied taken) (state_of machine.old) }
     ensures allowed { IfOk result (λ allowed.
         allowed ≡ is_some (step_with routes.now (option_copied taken.entry) (state_of machine.old) (Take split))) }
     ensures state { OnOk result (state_of machine.new ≡ unwrap_or
@@ -55,32 +58,69 @@ fn apply_take(
     Ok(true)
 }
 
-/// Serves a batch, where its moment is not before the address' last, its picks give a request and its answer is valid.
+/// Serves a batch, where its answer is asked for and is a valid result.
 fn apply_batch(alloc: Global, machine: &mut Machine, routes: &Routes, reply: &Reply) -> Mem<bool>
-    ensures allowed { IfOk result (λ allowed. allowed ≡ is_some (batch_step routes.now reply.now (state_of machine.old))) }
-    ensures state { OnOk result (state_of machine.new ≡ unwrap_or
-        (batch_step routes.now reply.now (state_of machine.old)) (state_of machine.old)) }
+    ensures allowed { (found : Option IngressRecord) → IfOk result (λ allowed.
+        allowed ≡ is_some (step_with routes.now found (state_of machine.old) (Batch reply.now))) }
+    ensures state { (found : Option IngressRecord) → OnOk result (state_of machine.new ≡ unwrap_or
+        (step_with routes.now found (state_of machine.old) (Batch reply.now)) (state_of machine.old)) }
     ensures err { OnErr result (state_of machine.new ≡ state_of machine.old) }
 {
-    if reply.moment < machine.seen(&reply.address) {
+    let Some(judged) = judged_reply(alloc, machine, routes, reply)? else {
         return Ok(false);
+    };
+    match judged {
+        Judged::Accept(effects) => {
+            serve(alloc, machine, reply, effects)?;
+            Ok(true)
+        }
+        Judged::Register(_specs) => Ok(false),
+        Judged::Flaw(_flaw) => Ok(false),
     }
-    let Some(_request) = request_for(alloc, machine, routes, reply)? else {
+}
+
+/// Registers what an answer misses, where it is asked for and its list is valid.
+fn apply_register(alloc: Global, machine: &mut Machine, routes: &Routes, reply: &Reply) -> Mem<bool>
+    ensures allowed { (found : Option IngressRecord) → IfOk result (λ allowed.
+        allowed ≡ is_some (step_with routes.now found (state_of machine.old) (Register reply.now))) }
+    ensures state { (found : Option IngressRecord) → OnOk result (state_of machine.new ≡ unwrap_or
+        (step_with routes.now found (state_of machine.old) (Register reply.now)) (state_of machine.old)) }
+    ensures err { OnErr result (state_of machine.new ≡ state_of machine.old) }
+{
+    let Some(judged) = judged_reply(alloc, machine, routes, reply)? else {
         return Ok(false);
     };
-    let Judged::Accept(response) = judge(alloc, reply.answer.as_slice(), &routes.module().egresses)?
-    else {
-        return Ok(false);
-    };
-    serve(alloc, machine, reply, response)?;
-    Ok(true)
+    match judged {
+        Judged::Accept(_effects) => Ok(false),
+        Judged::Register(specs) => {
+            register(alloc, machine, reply, specs)?;
+            Ok(true)
+        }
+        Judged::Flaw(_flaw) => Ok(false),
+    }
+}
+
+/// Sends the delayed letter of an address that is due at a moment, where one is.
+fn apply_due(
+    alloc: Global,
+    machine: &mut Machine,
+    routes: &Routes,
+    address: &Address,
+    moment: u64,
+) -> Mem<bool>
+    ensures allowed { (found : Option IngressRecord) → IfOk result (λ allowed.
+        allowed ≡ is_some (step_with routes.now found (state_of machine.old) (Due address.now moment))) }
+    ensures state { (found : Option IngressRecord) → OnOk result (state_of machine.new ≡ unwrap_or
+        (step_with routes.now found (state_of machine.old) (Due address.now moment)) (state_of machine.old)) }
+    ensures err { OnErr result (state_of machine.new ≡ state_of machine.old) }
+{
+    send_due(alloc, machine, address, moment)
 }
 
 impl Machine {
     /// Makes the step of an entry, where it is allowed: true exactly then, and the state is the step's. For a Take `taken`
-    /// is the record that the split's list has next, if it has one; for a Batch it is not looked at. With false, and with
-    /// an `Err`, the state stays.
-    #[tactic(auto, unfolding(crate::specs::Machine::step_with))]
+    /// is the record that the split's list has next, if it has one; other steps do not look at it. With false, and with an
+    /// `Err`, the state stays.
     pub fn apply(
         &mut self,
         alloc: Global,
@@ -88,7 +128,7 @@ impl Machine {
         taken: Option<&IngressRecord>,
         routes: &Routes,
     ) -> Mem<bool>
-        requires { HasRoom entry.now.step (option_copied taken) (state_of self.old) }
+        requires { HasRoom (actor_of entry.now.step) (option_copied taken) (state_of self.old) }
         ensures allowed { IfOk result (λ allowed.
             allowed ≡ is_some (step_with routes.now (option_copied taken.entry) (state_of self.old) entry.now.step)) }
         ensures state { OnOk result (state_of self.new ≡ unwrap_or
@@ -98,6 +138,8 @@ impl Machine {
         match &entry.step {
             Step::Take(split) => apply_take(alloc, self, routes, *split, taken),
             Step::Batch(reply) => apply_batch(alloc, self, routes, reply),
+            Step::Register(reply) => apply_register(alloc, self, routes, reply),
+            Step::Due { address, moment } => apply_due(alloc, self, routes, address, *moment),
         }
     }
 }

@@ -1,8 +1,8 @@
 //! The text of egress records.
 ghost use Rattle.std.specs.Prelude.{◌≡◌, ◌∷◌, ◌++◌, map, OnOk, OnErr};
 ghost use Rattle.typed_values.specs.Escape.{StartsAs, escaped, value_text};
-ghost use Rattle.run_record.specs.Egress.{egress_line, egress_text, egress_record};
-ghost use Rattle.run_record.specs.Machine.{argument_of};
+ghost use Rattle.run_record.specs.Egress.{egress_line, egress_text};
+ghost use Rattle.invocation.specs.Effects.{argument_of, egress_record};
 
 use proto_wire::{Bytes, Mem};
 use request_reply::EgressMessage;

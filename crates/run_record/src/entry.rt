@@ -33,6 +33,10 @@ pub enum Step {
     Take(u32),
     /// A batch was served, and its answer took effect.
     Batch(Reply),
+    /// An answer that missed values registered them; its letters wait on.
+    Register(Reply),
+    /// The delayed letter of an address that comes due first was sent, at a moment in milliseconds.
+    Due { address: Address, moment: u64 },
 }
 
 impl TryClone for Step {
@@ -40,6 +44,11 @@ impl TryClone for Step {
         match self {
             Step::Take(split) => Ok(Step::Take(*split)),
             Step::Batch(reply) => Ok(Step::Batch(reply.try_clone(alloc)?)),
+            Step::Register(reply) => Ok(Step::Register(reply.try_clone(alloc)?)),
+            Step::Due { address, moment } => Ok(Step::Due {
+                address: address.try_clone(alloc)?,
+                moment: *moment,
+            }),
         }
     }
 }

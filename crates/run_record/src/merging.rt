@@ -1,6 +1,6 @@
 //! Lists of entries, merged into one record.
 ghost use Rattle.std.specs.Prelude.{◌≡◌, IfOk, flat_map};
-ghost use Rattle.run_record.specs.Machine.{merged};
+ghost use Rattle.run_record.specs.Record.{merged};
 
 use crate::Entry;
 use proto_wire::{List, Mem};

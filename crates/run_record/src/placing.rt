@@ -1,30 +1,18 @@
-//! Letters and egress messages, made ready to be kept.
-ghost use Rattle.std.specs.Prelude.{◌≡◌, IfOk, map};
-ghost use Rattle.run_record.specs.Machine.{argument_of, letters_from};
-ghost use Rattle.run_record.specs.StateOf.{placed_letter, placed_message};
+//! Letters and egress records, put where they are kept.
+ghost use Rattle.std.specs.Prelude.{◌≡◌, ◌++◌, IfOk, OnOk, OnErr, map};
+ghost use Rattle.typed_values.specs.declared.address.Address.{Address};
+ghost use Rattle.typed_values.specs.declared.name.TypeName.{TypeName};
+ghost use Rattle.typed_values.specs.declared.letter.Sender.{Sender};
+ghost use Rattle.run_record.specs.Machine.{posted, given};
+ghost use Rattle.run_record.specs.StateOf.{mail_of, egress_in, placed_letter, placed_record};
 
-use crate::shelves::Placed;
-use proto_wire::{Bytes, List, Mem, Text, TryClone};
-use request_reply::{EgressMessage, OutgoingInvocation};
+use keyed_queues::{Placed, Shelves};
+use proto_wire::{List, Mem};
 use std::alloc::Global;
-use typed_values::{Address, Letter, Sender, TypeName, TypedValue};
-
-/// An argument, or what stands for one that is absent.
-pub fn argument_or_none(alloc: Global, argument: Option<TypedValue>) -> TypedValue
-    ensures { result ≡ argument_of argument }
-{
-    match argument {
-        Some(argument) => argument,
-        None => TypedValue {
-            typename: Text::new(alloc),
-            has_value: false,
-            value: Bytes::new(alloc),
-        },
-    }
-}
+use typed_values::{Address, EgressRecord, Letter, Sender, TypeName, TypedValue};
 
 /// Letters, to be kept by target and sender.
-pub fn placed_letters(
+fn placed_letters(
     alloc: Global,
     letters: List<Letter>,
 ) -> Mem<Vec<Placed<Address, Sender, TypedValue>>>
@@ -41,46 +29,63 @@ pub fn placed_letters(
     Ok(items)
 }
 
-/// The messages of an address' answer, to be kept as letters by target and sender. One without a target is none.
-pub fn placed_answers(
+/// Egress records, to be kept by sender and egress.
+fn placed_records(
     alloc: Global,
-    address: &Address,
-    messages: List<OutgoingInvocation>,
-) -> Mem<Vec<Placed<Address, Sender, TypedValue>>>
-    ensures { IfOk result (λ items. items.items ≡ map placed_letter (letters_from address.now messages)) }
+    records: List<EgressRecord>,
+) -> Mem<Vec<Placed<Address, TypeName, TypedValue>>>
+    ensures { IfOk result (λ items. items.items ≡ map placed_record records) }
 {
-    let mut items = Vec::with_capacity(alloc, messages.len())?;
-    for message in messages.into_vec() {
-        let OutgoingInvocation { target, argument } = message;
-        if let Some(target) = target {
-            items.push(Placed {
-                outer: target,
-                inner: Sender::Function(address.try_clone(alloc)?),
-                value: argument_or_none(alloc, argument),
-            })?;
-        }
+    let mut items = Vec::with_capacity(alloc, records.len())?;
+    for record in records.into_vec() {
+        items.push(Placed {
+            outer: record.sender,
+            inner: record.egress,
+            value: record.argument,
+        })?;
     }
     Ok(items)
 }
 
-/// The egress messages of an address' answer, to be kept by address and egress.
-pub fn placed_egress(
+/// Letters go last in the mail of their pairs, in order. An `Err` changes no mail.
+pub(crate) fn post(
     alloc: Global,
-    address: &Address,
-    messages: List<EgressMessage>,
-) -> Mem<Vec<Placed<Address, TypeName, TypedValue>>>
-    ensures { IfOk result (λ items. items.items ≡ map (placed_message address.now) messages) }
+    mail: &mut Shelves<Address, Sender, TypedValue>,
+    letters: List<Letter>,
+) -> Mem<()>
+    ensures ok { OnOk result ((sender : Sender) → (target : Address) →
+        mail_of mail.new sender target ≡ posted (mail_of mail.old) letters sender target) }
+    ensures err { OnErr result ((sender : Sender) → (target : Address) → mail_of mail.new sender target ≡ mail_of mail.old sender target) }
 {
-    let mut items = Vec::with_capacity(alloc, messages.len())?;
-    for message in messages.into_vec() {
-        items.push(Placed {
-            outer: address.try_clone(alloc)?,
-            inner: TypeName {
-                namespace: message.egress_namespace,
-                name: message.egress_type,
-            },
-            value: argument_or_none(alloc, message.argument),
-        })?;
+    let items = placed_letters(alloc, letters)?;
+    let _places = mail.push_all(alloc, items)?;
+    Ok(())
+}
+
+/// Letters go last in the mail of their pairs and egress records last in the egress of theirs, in order. An `Err` changes
+/// neither.
+pub(crate) fn send(
+    alloc: Global,
+    mail: &mut Shelves<Address, Sender, TypedValue>,
+    egress: &mut Shelves<Address, TypeName, TypedValue>,
+    letters: List<Letter>,
+    records: List<EgressRecord>,
+) -> Mem<()>
+    ensures mail { OnOk result ((sender : Sender) → (target : Address) →
+        mail_of mail.new sender target ≡ posted (mail_of mail.old) letters sender target) }
+    ensures egress { OnOk result ((address : Address) → (name : TypeName) →
+        egress_in egress.new address name ≡ given (egress_in egress.old) records address name) }
+    ensures no_mail { OnErr result ((sender : Sender) → (target : Address) →
+        mail_of mail.new sender target ≡ mail_of mail.old sender target) }
+    ensures no_egress { OnErr result ((address : Address) → (name : TypeName) →
+        egress_in egress.new address name ≡ egress_in egress.old address name) }
+{
+    let letters = placed_letters(alloc, letters)?;
+    let records = placed_records(alloc, records)?;
+    let places = mail.push_all(alloc, letters)?;
+    if let Err(refused) = egress.push_all(alloc, records) {
+        mail.withdraw(places.as_slice());
+        return Err(refused);
     }
-    Ok(items)
+    Ok(())
 }

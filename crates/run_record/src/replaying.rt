@@ -5,7 +5,8 @@ ghost use Rattle.run_record.specs.StateOf.{state_of};
 ghost use Rattle.run_record.specs.Replays.{Replays, StepsOver, HasIngressCause, fault_of};
 
 use crate::machine::Machine;
-use crate::{Entry, Routes, Step};
+use crate::{Entry, Step};
+use address_routing::Routes;
 use proto_wire::{List, OutOfMemory};
 use sf_outside::{Fault, Ingress};
 use std::alloc::Global;
@@ -66,7 +67,7 @@ fn replay_step<I: Ingress>(
             Ok(found) => found,
             Err(fault) => return Err(fault_of(fault)),
         },
-        Step::Batch(_) => None,
+        Step::Batch(_) | Step::Register(_) | Step::Due { .. } => None,
     };
     Ok(machine.apply(alloc, entry, found.as_ref(), routes)?)
 }

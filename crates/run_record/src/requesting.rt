@@ -1,64 +1,89 @@
-//! The request of a batch.
-ghost use Rattle.std.specs.Prelude.{◌≡◌, ◌^◌, ◌<◌, IfOk, length};
-ghost use Rattle.run_record.specs.Machine.{request_of, is_within};
-ghost use Rattle.run_record.specs.StateOf.{state_of};
+//! The answers of a machine's addresses.
+ghost use Rattle.std.specs.Prelude.{◌≡◌, ◌&&◌, nat_lt, nat_le, is_some, IfOk, IfSome, Some, None, if◌then◌else◌};
+ghost use Rattle.typed_values.specs.declared.letter.Sender.TheVariants.{Function};
+ghost use Rattle.invocation.specs.Laws.{Fits};
+ghost use Rattle.run_record.specs.Machine.{answer_by, nothing, request_of_picks};
+ghost use Rattle.run_record.specs.StateOf.{own_of, state_of};
 
+use crate::Reply;
 use crate::machine::Machine;
-use crate::picking::picked;
-use crate::{Endpoint, Reply, Routes};
-use proto_wire::{List, Mem, TryClone};
-use request_reply::{InvocationBatchRequest, ToFunction, encode_to, size_to};
+use crate::part::Part;
+use crate::picking::with_picked;
+use address_routing::Routes;
+use invocation::{Judged, RequestSize, a_request_is_its_head_and_its_letters, judge};
+use proto_wire::Mem;
 use std::alloc::Global;
-use typed_values::Sender;
 
-/// Whether a request of so many letters keeps its endpoint's limits.
-fn is_within(
-    alloc: Global,
-    endpoint: &Endpoint,
-    picks: &List<Sender>,
-    request: &ToFunction,
-) -> Mem<bool>
-    ensures { IfOk result (λ within. within ≡ is_within endpoint.now picks.now request.now) }
+/// Whether a batch may have so many letters.
+fn is_count(letters: usize, most: u32) -> bool
+    ensures { result ≡ (nat_lt 0 letters && nat_le letters most) }
 {
-    let letters = picks.len();
-    if letters == 0 || letters > endpoint.max_letters as usize {
-        return Ok(false);
-    }
-    let size = size_to(request);
-    if size < u64::MAX {
-        return Ok(size <= endpoint.max_bytes);
-    }
-    // What `size_to` says of a longer spelling is no length, so it is made.
-    let bytes = encode_to(alloc, request)?;
-    Ok(bytes.len() as u64 <= endpoint.max_bytes)
+    letters > 0 && letters <= most as usize
 }
 
-/// The request that a batch's answer answers. `None` exactly where there is none: a picked letter is not there, the type
-/// has no endpoint, or a limit is passed.
-#[tactic(auto, unfolding(crate::specs::Machine::request_of, crate::specs::StateOf::state_of))]
-pub fn request_for(
+/// Whether picks of letters to an address with such a part give a request.
+#[tactic(auto, unfolding(crate::specs::Machine::request_of_picks, crate::specs::StateOf::state_of))]
+fn has_request(
+    alloc: Global,
+    machine: &Machine,
+    routes: &Routes,
+    part: &Part,
+    reply: &Reply,
+) -> Mem<bool>
+    ensures { IfOk result (λ there. there ≡ is_some (request_of_picks routes.now part.now.cells
+        (λ sender. (state_of machine.now).mail sender reply.now.address) reply.now.address reply.now.moment reply.now.picks)) }
+{
+    let Some(endpoint) = routes.endpoint_of(&reply.address.kind) else {
+        return Ok(false);
+    };
+    let is_count = is_count(reply.picks.len(), endpoint.max_letters);
+    if !is_count {
+        return Ok(false);
+    }
+    a_request_is_its_head_and_its_letters();
+    let head = RequestSize::of(&reply.address, &part.cells, reply.moment);
+    match with_picked(
+        alloc,
+        &machine.mail,
+        &reply.address,
+        reply.picks.as_slice(),
+        head,
+    )? {
+        Some(size) => Ok(size.is_within(endpoint.max_bytes)),
+        None => Ok(false),
+    }
+}
+
+/// What an answer does, where it is one to a request that its picks give, at a moment that is not before its address' last.
+/// `None` exactly where it is not.
+#[tactic(auto, unfolding(crate::specs::StateOf::state_of))]
+pub(crate) fn judged_reply(
     alloc: Global,
     machine: &Machine,
     routes: &Routes,
     reply: &Reply,
-) -> Mem<Option<ToFunction>>
-    ensures { IfOk result (λ request.
-        request ≡ request_of routes.now (state_of machine.now) reply.now.address reply.now.moment reply.now.picks) }
+) -> Mem<Option<Judged>>
+    ensures judged { let own = (state_of machine.now).own (Function reply.now.address) in IfOk result (λ answer.
+        answer ≡ answer_by routes.now own (state_of machine.now).mail reply.now) }
+    ensures fits { IfOk result (λ answer. IfSome answer (Fits ((state_of machine.now).own (Function reply.now.address)).cells)) }
 {
-    let Some(endpoint) = routes.endpoint_of(&reply.address.kind) else {
+    let none = Part::new(alloc)?;
+    let part = machine.parts.get_or(&reply.address, &none);
+    if reply.moment < part.seen {
         return Ok(None);
-    };
-    let Some(letters) = picked(alloc, &machine.mail, &reply.address, reply.picks.as_slice())? else {
-        return Ok(None);
-    };
-    let request = ToFunction::Invocation(InvocationBatchRequest {
-        target: Some(reply.address.try_clone(alloc)?),
-        state: List::new(alloc),
-        invocations: letters,
-    });
-    if is_within(alloc, endpoint, &reply.picks, &request)? {
-        Ok(Some(request))
-    } else {
-        Ok(None)
     }
+    let is_there = has_request(alloc, machine, routes, part, reply)?;
+    if !is_there {
+        return Ok(None);
+    }
+    let bytes = reply.answer.as_slice();
+    let answer = judge(
+        alloc,
+        bytes,
+        &part.cells,
+        routes,
+        &reply.address,
+        reply.moment,
+    )?;
+    Ok(Some(answer))
 }

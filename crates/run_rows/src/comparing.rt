@@ -1,7 +1,8 @@
 //! What a replayed machine holds, beside what was written.
+use address_routing::Module;
 use proto_wire::{Bytes, Mem, Text, TryClone};
 use row_text::Failure;
-use run_record::{Machine, Module, put_egress_line};
+use run_record::{Machine, put_egress_line};
 use sf_outside::IngressRecord;
 use std::alloc::Global;
 use typed_values::{Address, EgressRecord, Sender, TypeName, TypedValue, put_address_text};

@@ -68,7 +68,6 @@ fn kind_of(name: &str) -> Result<FlawKind, Failure> {
         "10" => Ok(FlawKind::BadExpiry),
         "11" => Ok(FlawKind::TooMany),
         "12" => Ok(FlawKind::NoNewName),
-        "90" => Ok(FlawKind::NotBuilt),
         _ => Err(Failure::Row),
     }
 }

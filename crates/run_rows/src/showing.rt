@@ -76,6 +76,8 @@ fn put_entry(alloc: Global, text: &mut String, entry: &Entry) -> Result<(), Fail
     let kind = match &entry.step {
         Step::Take(_) => "T",
         Step::Batch(_) => "B",
+        Step::Register(_) => "R",
+        Step::Due { .. } => "D",
     };
     let leg = entry.leg;
     let stamp = entry.stamp;

@@ -6,6 +6,9 @@ ghost use Rattle.sf_disk.specs.Moments.{WhereTold, Since, Becomes, InFile};
 
 use sf_outside::Fault;
 
+/// No file is longer.
+pub(crate) const LONGEST: u64 = 1 << 62;
+
 /// Numbered files, of which a file that was never written is empty.
 ///
 /// A call that answers a fault may have done any part of its work. What a disk tells is a list of moments, each with

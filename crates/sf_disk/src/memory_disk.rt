@@ -10,14 +10,12 @@ ghost use Rattle.sf_disk.specs.Failing.{IsFresh, FailsNext, CountsOne};
 use crate::Disk;
 use crate::call_count::CallCount;
 use crate::change::Change;
+use crate::disk::LONGEST;
 use crate::files::{change_in, copy_from, file_in};
 use crate::image::image_of;
 use proto_wire::{Bytes, List, Mem, TryClone};
 use sf_outside::Fault;
 use std::alloc::Global;
-
-/// No file is longer.
-const LONGEST: u64 = 1 << 62;
 
 /// Numbered files in memory, whose listed calls fail.
 ///

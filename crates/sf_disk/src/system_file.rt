@@ -1,15 +1,13 @@
 //! One file of the system, which stays open.
 ghost use Rattle.std.specs.Prelude.{◌+◌, ◌^◌, ◌≤◌, length, IfOk, OnOk};
 
+use crate::disk::LONGEST;
 use crate::names::fault_of;
 use sf_outside::Fault;
 use std::fs::OpenFile;
 use std::io;
 use std::io::ErrorKind;
 use std::os::unix::fs::FileExt;
-
-/// No file is longer.
-const LONGEST: u64 = 1 << 62;
 
 /// An open file. Its length is asked for once, since nobody else writes it.
 #[derive(Drop)]
@@ -79,7 +77,7 @@ impl<F: OpenFile + FileExt + Drop> SystemFile<F> {
         Ok(())
     }
 
-    /// Whether its name in the folder is still to be synced, too.
+    /// Whether its name in the folder was synced since it was opened.
     pub(crate) fn is_settled(&self) -> bool {
         self.settled
     }

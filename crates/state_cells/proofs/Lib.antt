@@ -4,3 +4,4 @@ mod Rows
 mod Invoking
 mod Registering
 mod Living
+mod Fronts

@@ -1,5 +1,5 @@
 //! The cells of an address.
-ghost use Rattle.std.specs.Prelude.{◌≡◌, ◌<◌, [], length, map, slice_get, Some, IsTrue, IfOk, OnOk, OnErr, option_copied};
+ghost use Rattle.std.specs.Prelude.{◌≡◌, ◌<◌, [], length, map, slice_get, take, Some, IsTrue, IfOk, OnOk, OnErr, option_copied};
 ghost use Rattle.typed_values.specs.Cells.{found, registered, changed, written, emptied, invoked, shipped};
 ghost use Rattle.state_cells.specs.Answers.{Answers, registering, modifying, deleting};
 ghost use Rattle.state_cells.specs.Kept.{AreCells};
@@ -103,6 +103,13 @@ impl Cells {
         ensures { self.new ≡ map (invoked moment) self.old }
     {
         invoke_all(&mut self.cells, moment);
+    }
+
+    /// Drops all cells but the first so many, in order of registration. Takes no memory.
+    pub fn truncate(&mut self, len: usize)
+        ensures { self.new ≡ take len self.old }
+    {
+        self.cells.truncate(len);
     }
 
     /// All cells as a request at a moment carries them, in order.

@@ -14,6 +14,9 @@ const COMMANDS: &str = "The commands of statefun:
       Prints the request (to) or the answer (from) that the bytes of standard input spell,
       at most 8388608 of them.
 
+  statefun check MODULE
+      Prints what the module file MODULE is made of, or its first fault.
+
 The line `usage word I` names the first wrong word, counted from 0; where it is the number
 of words, one is missing.
 ";

@@ -2,7 +2,9 @@
 #![tactic(auto)]
 
 mod arguments;
+mod check;
 mod help;
+mod missing;
 
 use proto_wire::{Bytes, Mem, Text};
 use sf_outside::{FixedLink, FolderIngress, ReaderSource, WriterSink};
@@ -40,6 +42,7 @@ fn status_of(rt: &HostRuntime) -> u8 {
 fn command(rt: &HostRuntime, words: &[String]) -> Mem<u8> {
     match words.first() {
         Some(word) if word.as_str() == "decode" => Ok(decode(rt, words)),
+        Some(word) if word.as_str() == "check" => check::check(rt, words),
         _ => run(rt, words),
     }
 }

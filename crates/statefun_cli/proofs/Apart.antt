@@ -8,10 +8,10 @@ use Rattle.sf_outside.specs.declared.ingress.IngressRecord.{IngressRecord}
 use Rattle.typed_values.specs.declared.address.Address.{Address}
 use Rattle.typed_values.specs.declared.letter.Sender.{Sender}
 use Rattle.typed_values.specs.declared.letter.Letter.{Letter}
-use Rattle.request_reply.specs.declared.judging.Judged.{Judged}
-use Rattle.request_reply.specs.declared.judging.Judged.TheVariants.{Accept, Flaw}
-use Rattle.request_reply.specs.Valid.{verdict}
-use Rattle.run_record.specs.declared.module.Module.{Module}
+use Rattle.statefun_cli.specs.declared.plain_answer.PlainAnswer.{PlainAnswer}
+use Rattle.statefun_cli.specs.declared.plain_answer.PlainAnswer.TheVariants.{Served, TooMuch, Refused}
+use Rattle.statefun_cli.specs.PlainAnswers.{plain_answer}
+use Rattle.address_routing.specs.declared.module.Module.{Module}
 use Rattle.run_record.specs.declared.entry.Entry.{Entry}
 use Rattle.statefun_cli.specs.Turns.{Heard, Work, Status, Going, Cut, Ended, Turned, Fate, Open, TooLate, Told, call_in, fate_of, take_entry, work_read, start_of, batch_entry, judged_turn, fated_turn, asked_turn, turned, go_on, turns_from, turns_of, no_work}
 use Rattle.statefun_cli.specs.Plain.{legs_of_step, legs_of, Ascend}
@@ -57,16 +57,17 @@ below_more : (turn : ℕ) (work : Work) → Below turn work → Below (turn + 1)
 unfolding Below
 below_more turn work b = Between-more 1 (legs_of work.entries) turn (turn + 1) b (omega arith)
 
-below_judged : (turn : ℕ) (read : Option IngressRecord) (sender : Sender) (target : Address) (others : List Letter) (answer : List ℕ) (work : Work) (events : List LinkEvent) (judged : Judged) → Below turn work → Below (turn + 1) (judged_turn turn read sender target others answer work events judged).work
+below_judged : (turn : ℕ) (read : Option IngressRecord) (sender : Sender) (target : Address) (others : List Letter) (answer : List ℕ) (work : Work) (events : List LinkEvent) (given : PlainAnswer) → Below turn work → Below (turn + 1) (judged_turn turn read sender target others answer work events given).work
 unfolding Below
-below_judged turn read sender target others answer work events (Flaw flaw) b = below_more turn work b
-below_judged turn read sender target others answer work events (Accept response) b = subst (λ (l : List ℕ). Between 1 l (turn + 1)) (sym (legs_of-append work.entries (batch_entry turn read sender target answer ∷ []))) (Between-push 1 (legs_of work.entries) turn turn b (omega arith))
+below_judged turn read sender target others answer work events (Refused flaw) b = below_more turn work b
+below_judged turn read sender target others answer work events TooMuch b = below_more turn work b
+below_judged turn read sender target others answer work events (Served records) b = subst (λ (l : List ℕ). Between 1 l (turn + 1)) (sym (legs_of-append work.entries (batch_entry turn read sender target answer ∷ []))) (Between-push 1 (legs_of work.entries) turn turn b (omega arith))
 
 below_fated : (m : Module) (turn : ℕ) (read : Option IngressRecord) (sender : Sender) (target : Address) (others : List Letter) (work : Work) (events : List LinkEvent) (fate : Fate) → Below turn work → Below (turn + 1) (fated_turn m turn read sender target others work events fate).work
 below_fated m turn read sender target others work events Open b = below_more turn work b
 below_fated m turn read sender target others work events TooLate b = below_more turn work b
 below_fated m turn read sender target others work events (Told (NoAnswer note)) b = below_more turn work b
-below_fated m turn read sender target others work events (Told (Answer answer)) b = below_judged turn read sender target others answer work events (verdict m.egresses answer) b
+below_fated m turn read sender target others work events (Told (Answer answer)) b = below_judged turn read sender target others answer work events (plain_answer m target answer) b
 
 below_asked : (m : Module) (patience turn : ℕ) (heard : Heard) (work : Work) (waiting : List Letter) → Below turn work → Below (turn + 1) (asked_turn m patience turn heard work waiting).work
 below_asked m patience turn heard work [] b = below_more turn work b

@@ -14,15 +14,15 @@ use Rattle.sf_outside.specs.declared.ingress.IngressRecord.{IngressRecord}
 use Rattle.sf_outside.specs.Splits.{Lists, split_of, record_at}
 use Rattle.typed_values.specs.declared.name.TypeName.{TypeName}
 use Rattle.typed_values.specs.declared.letter.Letter.{Letter}
-use Rattle.request_reply.specs.declared.judging.Judged.{Judged}
-use Rattle.request_reply.specs.declared.judging.Judged.TheVariants.{Accept, Flaw}
+use Rattle.statefun_cli.specs.declared.plain_answer.PlainAnswer.{PlainAnswer}
+use Rattle.statefun_cli.specs.declared.plain_answer.PlainAnswer.TheVariants.{Served, TooMuch, Refused}
 use Rattle.request_reply.specs.Spelling.{to_spelling}
-use Rattle.request_reply.specs.Valid.{verdict}
-use Rattle.run_record.specs.declared.module.Module.{Module}
-use Rattle.run_record.specs.Routing.{url_of}
+use Rattle.statefun_cli.specs.PlainAnswers.{plain_answer}
+use Rattle.address_routing.specs.declared.module.Module.{Module}
+use Rattle.address_routing.specs.Routing.{url_of}
 use Rattle.run_record.specs.Machine.{first_state}
 use Rattle.run_record.specs.Backed.{AreBacked, IsBackedReply}
-use Rattle.run_record.proofs.LawsOfSteps.{AreBacked-push}
+use Rattle.run_record.proofs.Backing.{AreBacked-push}
 use Rattle.statefun_cli.specs.Turns.{Heard, Work, Status, Going, Cut, Ended, Turned, Fate, Open, TooLate, Told, call_in, own_outcome, fate_by, fate_of, take_entry, work_read, request_for, start_of, batch_entry, judged_turn, fated_turn, asked_turn, turned, go_on, turns_from, turns_of, no_work, records_heard}
 use Rattle.statefun_cli.specs.Polling.{IsOwnAnswer}
 use Rattle.statefun_cli.specs.Words.{plain_module}
@@ -147,10 +147,11 @@ module _ (kind : TypeName) (url value_type : List ℕ) (egress : TypeName) where
   url_there : (target : TypeName) → target ≡ kind → url_of job target ≡ Some (unwrap_or (url_of job target) [])
   url_there target e = let is = ap (url_of job) e ∙ plain-url kind url value_type egress in is ∙ ap (λ (u : Option (List ℕ)). Some (unwrap_or u [])) (sym is)
 
-  judged_backs : (lists : Lists) (exchanges : List Exchange) (turn : ℕ) (read : Option IngressRecord) (letter : Letter) (others : List Letter) (answer : List ℕ) (work : Work) (events : List LinkEvent) (judged : Judged) → work.waiting ≡ letter ∷ others → length (to_spelling (request_for letter)) < 2 ^ 64 → verdict job.egresses answer ≡ judged
-      → Contains exchanges (exchange_of turn letter answer) → Backs lists exchanges work → Backs lists exchanges (judged_turn turn read letter.sender letter.target others answer work events judged).work
-  judged_backs lists exchanges turn read letter others answer work events (Flaw flaw) front short v x b = b
-  judged_backs lists exchanges turn read letter others answer work events (Accept response) front short v x b =
+  judged_backs : (lists : Lists) (exchanges : List Exchange) (turn : ℕ) (read : Option IngressRecord) (letter : Letter) (others : List Letter) (answer : List ℕ) (work : Work) (events : List LinkEvent) (plain : PlainAnswer) → work.waiting ≡ letter ∷ others → length (to_spelling (request_for letter)) < 2 ^ 64 → plain_answer job letter.target answer ≡ plain
+      → Contains exchanges (exchange_of turn letter answer) → Backs lists exchanges work → Backs lists exchanges (judged_turn turn read letter.sender letter.target others answer work events plain).work
+  judged_backs lists exchanges turn read letter others answer work events (Refused flaw) front short v x b = b
+  judged_backs lists exchanges turn read letter others answer work events TooMuch front short v x b = b
+  judged_backs lists exchanges turn read letter others answer work events (Served records) front short v x b =
       let for_kind : letter.target.kind ≡ kind = (subst (AllFor kind) front b.replays.stands.kinds).0 in
       let backed : IsBackedReply exchanges job b.replays.state (record { call = call_in turn; address = letter.target; moment = 0; picks = letter.sender ∷ []; answer = answer }) = record {
         request = request_for letter;
@@ -160,7 +161,7 @@ module _ (kind : TypeName) (url value_type : List ℕ) (egress : TypeName) where
         exchanged = x;
       } in
       record {
-        replays = judged_replays kind url value_type egress lists turn read letter others answer work events (Accept response) front short v b.replays;
+        replays = judged_replays kind url value_type egress lists turn read letter others answer work events (Served records) front short v b.replays;
         backed = AreBacked-push exchanges job lists first_state b.replays.state work.entries (batch_entry turn read letter.sender letter.target answer) b.backed b.replays.replays backed;
       }
 
@@ -169,7 +170,7 @@ module _ (kind : TypeName) (url value_type : List ℕ) (egress : TypeName) where
   fated_backs lists exchanges turn read letter others work events Open front short x b = b
   fated_backs lists exchanges turn read letter others work events TooLate front short x b = b
   fated_backs lists exchanges turn read letter others work events (Told (NoAnswer note)) front short x b = b
-  fated_backs lists exchanges turn read letter others work events (Told (Answer answer)) front short x b = judged_backs lists exchanges turn read letter others answer work events (verdict job.egresses answer) front short refl (x answer refl) b
+  fated_backs lists exchanges turn read letter others work events (Told (Answer answer)) front short x b = judged_backs lists exchanges turn read letter others answer work events (plain_answer job letter.target answer) front short refl (x answer refl) b
 
   -- what the turn's events and those around it say of its call
   started_backs : (lists : Lists) (exchanges : List Exchange) (patience turn : ℕ) (heard : Heard) (started : Bool) (work : Work) (letter : Letter) (others : List Letter) (past more total : List LinkEvent) → work.waiting ≡ letter ∷ others

@@ -19,7 +19,9 @@ use Rattle.statefun_cli.specs.declared.decode.DecodeEnd.{DecodeEnd}
 use Rattle.statefun_cli.specs.declared.decode.DecodeEnd.TheVariants.{Decoded, Faulty, Help, Usage, ReadFault}
 use Rattle.statefun_cli.specs.Kinds.{word_of}
 use Rattle.statefun_cli.specs.DecodeWords.{IsRefused, decode_app}
-use Rattle.statefun_cli.specs.Decode.{AsksForHelp, IsAnswered, IsAsked, IsAskedRun, IsDecoded, IsHelpRun, IsRightRun, IsSettled, IsUnread, Outside, Tells, decode_status, end_by, help_text, lines_of}
+use Rattle.statefun_cli.specs.Decode.{AsksForHelp, IsAnswered, IsAsked, IsAskedRun, IsDecoded, IsHelpRun, IsRightRun, decode_status, end_by, help_text, lines_of, reader}
+use Rattle.statefun_cli.specs.Outside.{IsUnread, Outside, Tells}
+use Rattle.statefun_cli.proofs.Telling.{read_end, told_end}
 use Rattle.statefun_cli.proofs.DecodeAsked.{help_is_shown, long_help_is_shown, right_is_taken, right_value}
 
 -- what one more read puts behind the bytes so far was the next that was left
@@ -38,7 +40,7 @@ same_kind Answer Answer e = refl
 same_kind Request Answer e = absurd cc
 same_kind Answer Request e = absurd cc
 
-none_among : (cause : ErrorKind) (kinds : List ErrorKind) → kinds ≡ [] → IsAmong cause kinds → ⊥
+pub none_among : (cause : ErrorKind) (kinds : List ErrorKind) → kinds ≡ [] → IsAmong cause kinds → ⊥
 none_among cause [] e among = among
 none_among cause (k ∷ ks) e among = absurd cc
 
@@ -79,7 +81,7 @@ only_help : (words : List (List ℕ)) → AsksForHelp words → (names : Bor (Li
 only_help words (first, inl is) names = ap (fault_of (decode_app names)) is ∙ help_is_shown names first
 only_help words (first, inr is) names = ap (fault_of (decode_app names)) is ∙ long_help_is_shown names first
 
-among_help : (cause : ErrorKind) (kinds : List ErrorKind) → kinds ≡ DisplayHelp ∷ [] → IsAmong cause kinds → cause ≡ DisplayHelp
+pub among_help : (cause : ErrorKind) (kinds : List ErrorKind) → kinds ≡ DisplayHelp ∷ [] → IsAmong cause kinds → cause ≡ DisplayHelp
 among_help cause [] e among = absurd among
 among_help cause (k ∷ ks) e (inl is) = cc
 among_help cause (k ∷ []) e (inr among) = absurd among
@@ -116,26 +118,18 @@ no_write_fault before now (Ok end) status cause is other = cause
 no_write_fault before now (Err Failed) status cause is other = absurd (other is)
 no_write_fault before now (Err OutOfMemory) status cause is other = cause
 
--- what was told is how it ended
-told_no_fault : (before after : Option (List ℕ)) (text : List ℕ) (told : DecodeEnd) (end : Result DecodeEnd Fault) → Tells before after text told end → end ≡ Ok ReadFault → told ≡ ReadFault
-told_no_fault before after text told (Ok end) tells is = let same = tells.0 in cc
-told_no_fault before after text told (Err fault) tells is = absurd cc
-
 end_no_fault : (lines : Result (List ℕ) WireFault) → end_by lines ≡ ReadFault → ⊥
 end_no_fault (Ok lines) e = cc
 end_no_fault (Err fault) e = cc
 
-settled_fault : (kind : MessageKind) (heard : List ℕ) (before after : Outside) (end : Result DecodeEnd Fault) (read : Result (Unit {0}) Fault) → IsSettled read kind heard before after end
-    → HasCause before.read_faults after.read_faults read → end ≡ Ok ReadFault → Rose before.read_faults after.read_faults
-settled_fault kind heard before after end (Ok x) settled cause is = absurd (end_no_fault (lines_of kind heard) (told_no_fault _ _ _ _ end settled.1 is))
-settled_fault kind heard before after end (Err Failed) settled cause is = cause.1
-settled_fault kind heard before after end (Err OutOfMemory) settled cause is = let memory = settled.0 in absurd cc
-
 answered_fault : (before after : Outside) (end : Result DecodeEnd Fault) (ask : Option DecodeAsk) → IsAnswered ask before after end → end ≡ Ok ReadFault → Rose before.read_faults after.read_faults
 answered_fault before after end None answered is = let memory = answered.1 in absurd cc
-answered_fault before after end (Some (Lines kind)) answered is = settled_fault kind answered.heard before after end answered.read answered.settled answered.read_cause is
-answered_fault before after end (Some HelpAsked) answered is = let told = told_no_fault _ _ help_text Help end answered.1 is in absurd cc
-answered_fault before after end (Some UsageAsked) answered is = let told = told_no_fault _ _ _ Usage end answered.1 is in absurd cc
+answered_fault before after end (Some (Lines kind)) answered is = elim (read_end (reader kind) before after ReadFault end answered is) [
+  | inl h ↦ absurd (end_no_fault (lines_of kind h.0) h.1)
+  | inr h ↦ h.1
+]
+answered_fault before after end (Some HelpAsked) answered is = let told = told_end _ _ help_text Help ReadFault end answered.1 is in absurd cc
+answered_fault before after end (Some UsageAsked) answered is = let told = told_end _ _ _ Usage ReadFault end answered.1 is in absurd cc
 
 ends_read_fault : (end : Result DecodeEnd Fault) (status : ℕ) → status ≡ decode_status end → status ≡ 9 → end ≡ Ok ReadFault
 ends_read_fault (Ok Decoded) status is at = absurd (omega arith)

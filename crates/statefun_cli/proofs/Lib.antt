@@ -1,4 +1,5 @@
 pub mod Polls
+pub mod Spelled
 pub mod Settling
 pub mod Serving
 pub mod Reading
@@ -15,5 +16,8 @@ pub mod Replayed
 pub mod Backing
 pub mod Apart
 pub mod Served
+pub mod Telling
 pub mod DecodeAsked
 pub mod Decoding
+pub mod CheckAsked
+pub mod Checking

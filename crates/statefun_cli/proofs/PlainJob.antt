@@ -4,8 +4,9 @@ use Rattle.std.specs.Cmp.Lexicographic.{bytes_decides}
 use Rattle.typed_values.specs.declared.name.TypeName.{TypeName}
 use Rattle.typed_values.specs.Sameness.{same_bytes}
 use Rattle.sf_outside.specs.declared.ingress.IngressRecord.{IngressRecord}
-use Rattle.run_record.specs.declared.module.Endpoint.{Endpoint}
-use Rattle.run_record.specs.Routing.{is_routable, splits_in, ingress_of, endpoint_of, url_of, filled, targets_of, letter_of, letters_of}
+use Rattle.address_routing.specs.declared.module.Endpoint.{Endpoint}
+use Rattle.address_routing.specs.Routing.{is_routable, splits_in, ingress_of, endpoint_of, url_of, filled, targets_of}
+use Rattle.run_record.specs.Letters.{letter_of, letters_of}
 use Rattle.statefun_cli.specs.Words.{plain_module}
 
 same : (bytes : List ℕ) → same_bytes bytes bytes ≡ true

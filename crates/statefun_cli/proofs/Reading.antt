@@ -1,6 +1,7 @@
 -- A turn from its read on.
 use Rattle.std.proofs.Common.{◌≡◌, ℕ, Bool, true, false, cond, eqb, List, [], ◌∷◌, ◌++◌, length, drop, Option, Some, None, refl, sym, ap, subst, ◌∙◌, arith}
 use Rattle.std.specs.List.{flat_map}
+use Rattle.std.specs.Option.{option_map_or}
 use Rattle.std.proofs.lemmas.List.{append-nil}
 use Rattle.std.proofs.lemmas.Grind.{flat_map-append}
 use Rattle.sf_outside.specs.declared.call.LinkEvent.{LinkEvent}
@@ -8,24 +9,27 @@ use Rattle.sf_outside.specs.declared.call.Exchange.{Exchange}
 use Rattle.sf_outside.specs.declared.ingress.IngressRecord.{IngressRecord}
 use Rattle.sf_outside.specs.Told.{more, more-nil}
 use Rattle.typed_values.specs.declared.letter.Letter.{Letter}
-use Rattle.run_record.specs.declared.module.Module.{Module}
+use Rattle.address_routing.specs.declared.module.Module.{Module}
 use Rattle.run_record.specs.declared.entry.Entry.{Entry}
-use Rattle.run_record.specs.Egress.{egress_of, egress_text, records_of_step}
+use Rattle.run_record.specs.Machine.{reply_of}
+use Rattle.run_record.specs.Egress.{records_of_reply, egress_of, egress_text}
 use Rattle.statefun_cli.specs.declared.end.PlainEnd.{PlainEnd}
-use Rattle.statefun_cli.specs.declared.end.PlainEnd.TheVariants.{Done, Usage, TurnsSpent, EndpointFailed, IngressFault, LinkFault, SinkFault, OutOfMemory}
+use Rattle.statefun_cli.specs.declared.end.PlainEnd.TheVariants.{Done, Usage, TurnsSpent, EndpointFailed, NotServed, IngressFault, LinkFault, SinkFault, OutOfMemory}
 use Rattle.statefun_cli.specs.Turns.{Heard, Work, Going, Ended, Turned, take_entry, work_read, status_at, asked_turn, turned}
 use Rattle.statefun_cli.specs.Progress.{IsFront, IsTextOf, IsTurnText, IsTurnEnd, IsEndOf, status_of}
 use Rattle.statefun_cli.specs.Making.{AreShort, IsHeard, IsAsked, IsTurnMade}
 use Rattle.statefun_cli.proofs.Serving.{no_polls}
 
 -- a take adds nothing to the egress
-nothing_taken : (m : Module) (turn : ℕ) (entries : List Entry) → egress_of m (entries ++ take_entry turn ∷ []) ≡ egress_of m entries
+nothing_taken : (turn : ℕ) (entries : List Entry) → egress_of (entries ++ take_entry turn ∷ []) ≡ egress_of entries
 unfolding egress_of
-nothing_taken m turn entries = flat_map-append (λ (entry : Entry). records_of_step m entry.step) entries (take_entry turn ∷ []) ∙ append-nil (flat_map (λ (entry : Entry). records_of_step m entry.step) entries)
+nothing_taken turn entries =
+    let of_entry = λ (entry : Entry). option_map_or records_of_reply (reply_of entry.step) [] in
+    flat_map-append of_entry entries (take_entry turn ∷ []) ∙ append-nil (flat_map of_entry entries)
 
 pub text_read : (m : Module) (turn : ℕ) (read : Option IngressRecord) (text : List ℕ) (work : Work) → IsTextOf m text work.entries → IsTextOf m text (work_read m turn read work).entries
 text_read m turn None text work e = e
-text_read m turn (Some taken) text work e = e ∙ ap egress_text (sym (nothing_taken m turn work.entries))
+text_read m turn (Some taken) text work e = e ∙ ap egress_text (sym (nothing_taken turn work.entries))
 
 read_front : (m : Module) (turn : ℕ) (read : Option IngressRecord) (work : Work) → IsFront work.entries (work_read m turn read work).entries
 read_front m turn None work = ([], sym (append-nil work.entries))
@@ -35,6 +39,7 @@ read_front m turn (Some taken) work = (take_entry turn ∷ [], refl)
 done_is : (taken : ℕ) (b : Bool) (t : Turned) (entries : List Entry) (end : PlainEnd) → t.status ≡ Ended end → cond b (Ended (Done taken)) Going ≡ Ended end → entries ≡ t.work.entries → IsEndOf t entries end
 done_is taken b t entries (Done n) s e same = (s, same)
 done_is taken b t entries (EndpointFailed address reasons) s e same = (s, same)
+done_is taken b t entries (NotServed address) s e same = (s, same)
 done_is taken true t entries (Usage word) s e same = absurd cc
 done_is taken false t entries (Usage word) s e same = absurd cc
 done_is taken true t entries (TurnsSpent n) s e same = absurd cc
@@ -65,13 +70,14 @@ text_idle m text entries (Some (Done taken)) e = e
 text_idle m text entries (Some (Usage word)) e = e
 text_idle m text entries (Some (TurnsSpent taken)) e = e
 text_idle m text entries (Some (EndpointFailed address reasons)) e = e
+text_idle m text entries (Some (NotServed address)) e = e
 text_idle m text entries (Some IngressFault) e = e
 text_idle m text entries (Some LinkFault) e = e
 text_idle m text entries (Some SinkFault) e = e
 text_idle m text entries (Some OutOfMemory) e = tt
 
 pub text_taken : (m : Module) (turn : ℕ) (read : Option IngressRecord) (text text' : List ℕ) (old new : Work) → text' ≡ text → new ≡ work_read m turn read old → IsTextOf m text old.entries → IsTextOf m text' new.entries
-text_taken m turn read text text' old new t w e = t ∙ text_read m turn read text old e ∙ ap (λ (x : Work). egress_text (egress_of m x.entries)) (sym w)
+text_taken m turn read text text' old new t w e = t ∙ text_read m turn read text old e ∙ ap (λ (x : Work). egress_text (egress_of x.entries)) (sym w)
 
 module _ (m : Module) (patience turn : ℕ) (read : Option IngressRecord) (old new : Work) (before after : Option (List LinkEvent)) (exchanges : List Exchange) where
   quiet : Heard

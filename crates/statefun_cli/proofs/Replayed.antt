@@ -7,14 +7,15 @@ use Rattle.std.proofs.lemmas.List.{append-nil}
 use Rattle.sf_outside.specs.declared.call.LinkEvent.{LinkEvent}
 use Rattle.sf_outside.specs.declared.call.Exchange.{Exchange}
 use Rattle.sf_outside.specs.Splits.{Lists}
-use Rattle.run_record.specs.declared.module.Module.{Module}
+use Rattle.address_routing.specs.declared.module.Module.{Module}
 use Rattle.run_record.specs.declared.entry.Entry.{Entry}
-use Rattle.run_record.specs.Machine.{State, first_state, step_after, replayed}
+use Rattle.run_record.specs.Machine.{State, first_state}
+use Rattle.run_record.specs.Record.{step_after, replayed}
 use Rattle.run_record.specs.Backed.{AreBacked}
 use Rattle.statefun_cli.specs.Making.{LegsBelow}
-use Rattle.run_record.proofs.LawsOfEgress.{egress_of-first}
+use Rattle.run_record.proofs.LawsOfEgress.{egress-is}
 use Rattle.statefun_cli.specs.declared.end.PlainEnd.{PlainEnd}
-use Rattle.statefun_cli.specs.declared.end.PlainEnd.TheVariants.{Done, Usage, TurnsSpent, EndpointFailed, IngressFault, LinkFault, SinkFault, OutOfMemory}
+use Rattle.statefun_cli.specs.declared.end.PlainEnd.TheVariants.{Done, Usage, TurnsSpent, EndpointFailed, NotServed, IngressFault, LinkFault, SinkFault, OutOfMemory}
 use Rattle.statefun_cli.specs.Words.{plain_module, IsPlain}
 use Rattle.statefun_cli.specs.Turns.{Turned, turns_of}
 use Rattle.statefun_cli.specs.Progress.{IsFront}
@@ -33,13 +34,14 @@ entries_front t turns made entries (Done taken) e = whole_front entries t.work.e
 entries_front t turns made entries (Usage word) e = absurd e
 entries_front t turns made entries (TurnsSpent taken) e = whole_front entries t.work.entries e.3
 entries_front t turns made entries (EndpointFailed address reasons) e = whole_front entries t.work.entries e.1
+entries_front t turns made entries (NotServed address) e = whole_front entries t.work.entries e.1
 entries_front t turns made entries IngressFault e = e
 entries_front t turns made entries LinkFault e = e
 entries_front t turns made entries SinkFault e = e
 entries_front t turns made entries OutOfMemory e = e
 
 replayed_entries : (m : Module) (lists : Lists) (entries : List Entry) → (st : State) × (replayed m lists first_state entries ≡ Some st) → IsReplayed m lists entries
-replayed_entries m lists entries r = record { state = r.0; replays = r.1; egress = egress_of-first m lists r.0 entries r.1 }
+replayed_entries m lists entries r = record { state = r.0; replays = r.1; egress = egress-is m lists first_state r.0 entries r.1 }
 
 front_of_run : (m : Module) (lists : Lists) (entries whole : List Entry) (last : State) → IsFront entries whole → replayed m lists first_state whole ≡ Some last → IsReplayed m lists entries
 front_of_run m lists entries whole last front e = replayed_entries m lists entries (front_replays m lists entries front.0 last (ap (replayed m lists first_state) (sym front.1) ∙ e))

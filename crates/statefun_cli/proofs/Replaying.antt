@@ -1,72 +1,81 @@
 -- The record of a run replays: each turn's steps are steps of the machine.
-use Rattle.std.proofs.Common.{lit<, ◌≡◌, ℕ, ◌+◌, ◌<◌, ◌^◌, Bool, true, false, cond, leb, ◌&&◌, List, [], ◌∷◌, ◌++◌, length, map, Option, Some, None, Result, Ok, Err, refl, sym, ap, subst, ◌∙◌, arith, append_assoc, length-append}
+use Rattle.std.proofs.Common.{lit<, ◌≡◌, ℕ, ◌+◌, ◌<◌, ◌^◌, Bool, true, false, cond, leb, ◌&&◌, List, [], ◌∷◌, ◌++◌, length, map, Option, Some, None, refl, sym, ap, subst, ◌∙◌, arith, append_assoc, length-append}
 use Rattle.std.specs.Prelude.{slice_get}
-use Rattle.std.specs.Option.{option_to_list}
+use Rattle.std.specs.Option.{option_to_list, option_map}
 use Rattle.std.specs.Cmp.{first_so, second_so}
 use Rattle.std.proofs.lemmas.Bool.{le-leb}
+use Rattle.std.proofs.lemmas.List.{append-nil}
 use Rattle.sf_outside.specs.declared.call.Answered.TheVariants.{Answer, Lost as NoAnswer}
 use Rattle.sf_outside.specs.declared.call.LinkEvent.{LinkEvent}
 use Rattle.sf_outside.specs.declared.call.LinkEvent.TheVariants.{Polled}
 use Rattle.sf_outside.specs.declared.ingress.IngressRecord.{IngressRecord}
 use Rattle.sf_outside.specs.Splits.{Lists, split_of, record_at}
-use Rattle.proto_wire.specs.declared.fault.WireFault.{WireFault}
 use Rattle.typed_values.specs.declared.name.TypeName.{TypeName}
 use Rattle.typed_values.specs.declared.address.Address.{Address}
 use Rattle.typed_values.specs.declared.value.TypedValue.{TypedValue}
 use Rattle.typed_values.specs.declared.letter.Sender.{Sender}
+use Rattle.typed_values.specs.declared.letter.Sender.TheVariants.{Split, Function}
 use Rattle.typed_values.specs.declared.letter.Letter.{Letter}
-use Rattle.typed_values.specs.Sameness.{same_address}
-use Rattle.request_reply.specs.declared.answer.FromFunction.{FromFunction}
-use Rattle.request_reply.specs.declared.answer.FromFunction.TheVariants as answers
-use Rattle.request_reply.specs.declared.answer.InvocationResponse.{InvocationResponse}
-use Rattle.request_reply.specs.declared.answer.OutgoingInvocation.{OutgoingInvocation}
-use Rattle.request_reply.specs.declared.judging.Judged.{Judged}
-use Rattle.request_reply.specs.declared.judging.Judged.TheVariants.{Accept, Flaw}
-use Rattle.request_reply.specs.Spelling.{to_spelling, from_value}
-use Rattle.request_reply.specs.Valid.{verdict, judged_answer, judged_egresses, has_egresses_alone, first_unknown, is_empty, flaw_not_built, wire_flaw, too_long}
-use Rattle.run_record.specs.declared.module.Module.{Module}
+use Rattle.typed_values.specs.Sameness.{same_sender}
+use Rattle.typed_values.specs.declared.cells.Cell.{Cell}
+use Rattle.typed_values.specs.declared.record.EgressRecord.{EgressRecord}
+use Rattle.request_reply.specs.Spelling.{to_spelling}
+use Rattle.state_cells.specs.Lifetimes.{Invokes, after_all as cells_after}
+use Rattle.invocation.specs.declared.effects.Change.{Change}
+use Rattle.invocation.specs.declared.effects.Effects.{Effects}
+use Rattle.invocation.specs.declared.judging.Judged.{Judged}
+use Rattle.invocation.specs.declared.judging.Judged.TheVariants.{Accept, Register, Flaw}
+use Rattle.invocation.specs.Judging.{judgement}
+use Rattle.statefun_cli.specs.declared.plain_answer.PlainAnswer.{PlainAnswer}
+use Rattle.statefun_cli.specs.declared.plain_answer.PlainAnswer.TheVariants.{Served, TooMuch, Refused}
+use Rattle.statefun_cli.specs.PlainAnswers.{is_empty, given, plain_answer}
+use Rattle.address_routing.specs.declared.module.Module.{Module}
 use Rattle.run_record.specs.declared.entry.Entry.{Entry}
 use Rattle.run_record.specs.declared.entry.Reply.{Reply}
-use Rattle.run_record.specs.Routing.{letters_of, endpoint_of}
-use Rattle.run_record.specs.Machine.{State, first_state, posted_all, unpicked, request_of, letters_from, served, take_step, batch_step, replayed, took}
-use Rattle.run_record.proofs.LawsOfSteps.{IsTaken, IsServed, take_step-is, batch_step-is, replayed-append, replayed_push_on, some_from_and_then}
+use Rattle.address_routing.specs.Routing.{endpoint_of}
+use Rattle.run_record.specs.Letters.{letters_of}
+use Rattle.run_record.specs.declared.entry.Step.TheVariants.{Take, Batch}
+use Rattle.run_record.specs.Machine.{Own, State, Act, first_state, posted, unpicked, cell_call, request_of_picks, served, left, acted, took, made}
+use Rattle.run_record.specs.Record.{step_after, replayed}
+use Rattle.run_record.proofs.Steps.{take-made, replayed-append, replayed_push_on, some_from_and_then}
 use Rattle.statefun_cli.specs.Turns.{Heard, Work, Status, Going, Cut, Ended, Turned, Fate, Open, TooLate, Told, call_in, fate_of, take_entry, work_read, request_for, start_of, batch_entry, judged_turn, fated_turn, asked_turn, turned, go_on, turns_from, turns_of, no_work, records_heard}
 use Rattle.statefun_cli.specs.Words.{plain_module}
 use Rattle.statefun_cli.specs.Making.{AreShort}
 use Rattle.statefun_cli.proofs.PlainJob.{plain-endpoint, plain-letters}
-use Rattle.statefun_cli.proofs.Standing.{waiting_of, posted_all-waiting, waiting-append, waiting-front, unpicked-front, picked-front}
+use Rattle.statefun_cli.proofs.Standing.{waiting_of, arguments-waiting, waiting-append, waiting-front, unpicked-front, picked-front, same_sender-itself, not_split, not_function}
 use Rattle.statefun_cli.proofs.Runs.{turned-taken}
 
--- ---- an answer that is valid sends no messages
+-- ---- an answer that is served asks for nothing but egress
 
 empty_is : {A : Type 0} (xs : List A) → is_empty xs ≡ true → xs ≡ []
 empty_is [] e = refl
 empty_is (x ∷ xs) e = absurd cc
 
-judged_is : (r response : InvocationResponse) (o : Option ℕ) → judged_egresses r o ≡ Accept response → r ≡ response
-judged_is r response None e = cc
-judged_is r response (Some n) e = absurd cc
+-- what a judgement does that is served
+pub record Gives (j : Judged) (records : List EgressRecord) : Type 0 where
+  pub effects : Effects
+  pub accepted : j ≡ Accept effects
+  pub mutations : effects.mutations ≡ []
+  pub letters : effects.letters ≡ []
+  pub egress : effects.egress ≡ records
 
-accept_is : (b : Bool) (r response : InvocationResponse) (o : Option ℕ) → cond b (judged_egresses r o) flaw_not_built ≡ Accept response → (b ≡ true) × (r ≡ response)
-accept_is true r response o e = (refl, judged_is r response o e)
-accept_is false r response o e = absurd cc
+served_if : (b : Bool) (effects : Effects) (records : List EgressRecord) → cond b (Served effects.egress) TooMuch ≡ Served records → (b ≡ true) × (effects.egress ≡ records)
+served_if true effects records e = (refl, cc)
+served_if false effects records e = absurd cc
 
-accept_silent : (egresses : List TypeName) (read : Result FromFunction WireFault) (response : InvocationResponse) → judged_answer egresses read ≡ Accept response → response.outgoing_messages ≡ []
-unfolding judged_answer
-accept_silent egresses (Err e) response h = absurd cc
-accept_silent egresses (Ok (answers.Incomplete context)) response h = absurd cc
-accept_silent egresses (Ok (answers.Result r)) response h =
-    let a = accept_is (has_egresses_alone r) r response (first_unknown egresses 0 r.outgoing_egresses) h in
-    let two = first_so (is_empty r.state_mutations && is_empty r.outgoing_messages) _ a.0 in
-    ap (λ (x : InvocationResponse). x.outgoing_messages) (sym a.1) ∙ empty_is r.outgoing_messages (second_so (is_empty r.state_mutations) _ two)
-
-long_or : (b : Bool) (j : Judged) (response : InvocationResponse) → cond b (Flaw (wire_flaw too_long)) j ≡ Accept response → j ≡ Accept response
-long_or true j response e = absurd cc
-long_or false j response e = e
-
-pub verdict_silent : (egresses : List TypeName) (bytes : List ℕ) (response : InvocationResponse) → verdict egresses bytes ≡ Accept response → response.outgoing_messages ≡ []
-unfolding verdict
-verdict_silent egresses bytes response h = accept_silent egresses (from_value bytes) response (long_or _ (judged_answer egresses (from_value bytes)) response h)
+pub gives : (j : Judged) (records : List EgressRecord) → given j ≡ Served records → Gives j records
+gives (Accept effects) records e =
+    let is = served_if (is_empty effects.mutations && is_empty effects.letters && is_empty effects.delays) effects records e in
+    let two = first_so (is_empty effects.mutations && is_empty effects.letters) _ is.0 in
+    record {
+      effects = effects;
+      accepted = refl;
+      mutations = empty_is effects.mutations (first_so (is_empty effects.mutations) _ two);
+      letters = empty_is effects.letters (second_so (is_empty effects.mutations) _ two);
+      egress = is.1;
+    }
+gives (Register specs) records e = absurd cc
+gives (Flaw flaw) records e = absurd cc
 
 -- ---- one step
 
@@ -81,34 +90,35 @@ AllFor-append kind (letter ∷ a) b h k = (h.0, AllFor-append kind a b h.1 k)
 
 -- the machine's state is that of the run: the letters that wait are its mail
 pub record Stands (kind : TypeName) (st : State) (work : Work) : Type 0 where
-  pub taken : st.taken 0 ≡ work.taken
+  pub taken : (st.own (Split 0)).taken ≡ work.taken
   pub mail : (sender : Sender) (target : Address) → st.mail sender target ≡ waiting_of sender target work.waiting
-  pub cells : (address : Address) → st.cells address ≡ []
-  pub seen : (address : Address) → st.seen address ≡ 0
+  pub cells : (address : Address) → (st.own (Function address)).cells ≡ []
+  pub seen : (address : Address) → (st.own (Function address)).seen ≡ 0
   pub kinds : AllFor kind work.waiting
 
 module _ (kind : TypeName) (url value_type : List ℕ) (egress : TypeName) where
   abbrev job : Module
   job = plain_module kind url value_type egress
 
-  take_stands : (lists : Lists) (st : State) (work : Work) (turn : ℕ) (found : IngressRecord) → Stands kind st work → record_at lists 0 work.taken ≡ Some found → (next : State) × (take_step job lists 0 st ≡ Some next) × Stands kind next (work_read job turn (Some found) work)
-  unfolding took
+  take_stands : (lists : Lists) (st : State) (work : Work) (turn : ℕ) (found : IngressRecord) → Stands kind st work → record_at lists 0 work.taken ≡ Some found → (next : State) × (step_after job lists st (Take 0) ≡ Some next) × Stands kind next (work_read job turn (Some found) work)
+  unfolding same_sender
   take_stands lists st work turn found so there =
-      let is : IsTaken job lists 0 st (took job 0 found st) = record { inside = lit< tt; found = found; at_its_place = ap (record_at lists 0) so.taken ∙ there; leaves = refl } in (
-        took job 0 found st,
-        take_step-is is,
+      let is : record_at lists 0 (st.own (Split 0)).taken ≡ Some found = ap (record_at lists 0) so.taken ∙ there in
+      let act = took job 0 (st.own (Split 0)) found in (
+        acted (Take 0) act st,
+        ap (λ (o : Option IngressRecord). option_map (λ (x : Act). acted (Take 0) x st) (made job o st (Take 0))) is ∙ ap (option_map (λ (x : Act). acted (Take 0) x st)) (take-made job st 0 found (lit< tt)),
         record {
-          taken = ap (λ (n : ℕ). n + 1) so.taken;
-          mail = λ sender target. posted_all-waiting st.mail (letters_of job 0 found) sender target ∙ ap (λ (l : List TypedValue). l ++ waiting_of sender target (letters_of job 0 found)) (so.mail sender target) ∙ sym (waiting-append sender target work.waiting (letters_of job 0 found));
-          cells = so.cells;
-          seen = so.seen;
+          taken = ap (λ (b : Bool). (cond b (left act (st.own (Split 0))) (st.own (Split 0))).taken) (same_sender-itself (Split 0)) ∙ ap (λ (n : ℕ). n + 1) so.taken;
+          mail = λ sender target. ap (λ (l : List TypedValue). st.mail sender target ++ l) (arguments-waiting sender target (letters_of job 0 found)) ∙ ap (λ (l : List TypedValue). l ++ waiting_of sender target (letters_of job 0 found)) (so.mail sender target) ∙ sym (waiting-append sender target work.waiting (letters_of job 0 found));
+          cells = λ address. ap (λ (b : Bool). (cond b (left act (st.own (Function address))) (st.own (Function address))).cells) (not_function 0 address) ∙ so.cells address;
+          seen = λ address. ap (λ (b : Bool). (cond b (left act (st.own (Function address))) (st.own (Function address))).seen) (not_function 0 address) ∙ so.seen address;
           kinds = AllFor-append kind work.waiting (letters_of job 0 found) so.kinds (subst (AllFor kind) (sym (plain-letters kind url value_type egress found)) (refl, tt));
         },
       )
 
   -- the request of the letter in front is that of the machine
-  pub asked_is : (st : State) (work : Work) (letter : Letter) (others : List Letter) → Stands kind st work → work.waiting ≡ letter ∷ others → length (to_spelling (request_for letter)) < 2 ^ 64 → request_of job st letter.target 0 (letter.sender ∷ []) ≡ Some (request_for letter)
-  unfolding request_of
+  pub asked_is : (st : State) (work : Work) (letter : Letter) (others : List Letter) → Stands kind st work → work.waiting ≡ letter ∷ others → length (to_spelling (request_for letter)) < 2 ^ 64 → request_of_picks job (st.own (Function letter.target)).cells (λ sender. st.mail sender letter.target) letter.target 0 (letter.sender ∷ []) ≡ Some (request_for letter)
+  unfolding request_of_picks
   asked_is st work letter others so front short =
       let for_kind : letter.target.kind ≡ kind = (subst (AllFor kind) front so.kinds).0 in
       let endpoint = ap (endpoint_of job) for_kind ∙ plain-endpoint kind url value_type egress in
@@ -121,25 +131,43 @@ module _ (kind : TypeName) (url value_type : List ℕ) (egress : TypeName) where
   reply_to : ℕ → Letter → List ℕ → Reply
   reply_to turn letter answer = record { call = call_in turn; address = letter.target; moment = 0; picks = letter.sender ∷ []; answer = answer }
 
-  seen_none : (b : Bool) (n : ℕ) → n ≡ 0 → cond b 0 n ≡ 0
-  seen_none true n e = refl
-  seen_none false n e = e
+  -- what serves the letter in front leaves of an address' own
+  cells_left : (b : Bool) (reply : Reply) (effects : Effects) (mine own : Own) → effects.mutations ≡ [] → own.cells ≡ [] → (cond b (left (served reply effects mine) own) own).cells ≡ []
+  cells_left true reply effects mine own e c = ap (λ (l : List Change). cells_after (Invokes reply.moment ∷ map (cell_call reply.moment) l) own.cells) e ∙ ap (λ (l : List Cell). cells_after (Invokes reply.moment ∷ []) l) c
+  cells_left false reply effects mine own e c = c
 
-  batch_stands : (st : State) (work : Work) (turn : ℕ) (letter : Letter) (others : List Letter) (answer : List ℕ) (response : InvocationResponse) (entries : List Entry) → Stands kind st work → work.waiting ≡ letter ∷ others → length (to_spelling (request_for letter)) < 2 ^ 64 → verdict job.egresses answer ≡ Accept response
-      → (next : State) × (batch_step job (record { call = call_in turn; address = letter.target; moment = 0; picks = letter.sender ∷ []; answer = answer }) st ≡ Some next) × Stands kind next (record { taken = work.taken; waiting = others; entries = entries })
-  unfolding served
-  batch_stands st work turn letter others answer response entries so front short accepted =
+  seen_left : (b : Bool) (reply : Reply) (effects : Effects) (mine own : Own) → reply.moment ≡ 0 → own.seen ≡ 0 → (cond b (left (served reply effects mine) own) own).seen ≡ 0
+  seen_left true reply effects mine own e n = e
+  seen_left false reply effects mine own e n = n
+
+  batch_made : (st : State) (work : Work) (turn : ℕ) (letter : Letter) (others : List Letter) (answer : List ℕ) (effects : Effects) → Stands kind st work → work.waiting ≡ letter ∷ others → length (to_spelling (request_for letter)) < 2 ^ 64 → judgement job [] letter.target 0 answer ≡ Accept effects
+      → made job None st (Batch (record { call = call_in turn; address = letter.target; moment = 0; picks = letter.sender ∷ []; answer = answer })) ≡ Some (served (record { call = call_in turn; address = letter.target; moment = 0; picks = letter.sender ∷ []; answer = answer }) effects (st.own (Function letter.target)))
+  unfolding made
+  batch_made st work turn letter others answer effects so front short accepted =
+      let asked = asked_is st work letter others so front short in
+      let cells = so.cells letter.target in
+      let seen = so.seen letter.target in
+      rw (asked, seen, cells, accepted) refl
+
+  batch_stands : (lists : Lists) (st : State) (work : Work) (turn : ℕ) (letter : Letter) (others : List Letter) (answer : List ℕ) (records : List EgressRecord) (entries : List Entry) → Stands kind st work → work.waiting ≡ letter ∷ others → length (to_spelling (request_for letter)) < 2 ^ 64 → plain_answer job letter.target answer ≡ Served records
+      → (next : State) × (step_after job lists st (Batch (record { call = call_in turn; address = letter.target; moment = 0; picks = letter.sender ∷ []; answer = answer })) ≡ Some next) × Stands kind next (record { taken = work.taken; waiting = others; entries = entries })
+  unfolding plain_answer
+  batch_stands lists st work turn letter others answer records entries so front short plain =
       let reply : Reply = record { call = call_in turn; address = letter.target; moment = 0; picks = letter.sender ∷ []; answer = answer } in
-      let is : IsServed job reply st (served reply response st) = record { in_time = omega (arith, so.seen letter.target); request = request_for letter; asked = asked_is st work letter others so front short; response = response; accepted = accepted; leaves = refl } in (
-        served reply response st,
-        batch_step-is is,
+      let does = gives (judgement job [] letter.target 0 answer) records plain in
+      let own = st.own (Function letter.target) in
+      let act = served reply does.effects own in (
+        acted (Batch reply) act st,
+        ap (option_map (λ (x : Act). acted (Batch reply) x st)) (batch_made st work turn letter others answer does.effects so front short does.accepted),
         record {
-          taken = so.taken;
+          taken = ap (λ (b : Bool). (cond b (left act (st.own (Split 0))) (st.own (Split 0))).taken) (not_split letter.target 0) ∙ so.taken;
           mail = λ sender target.
-              ap (λ (messages : List OutgoingInvocation). posted_all (unpicked letter.target (letter.sender ∷ []) st.mail) (letters_from letter.target messages) sender target) (verdict_silent job.egresses answer response accepted)
+              ap (λ (letters : List Letter). posted (unpicked (Function letter.target) (letter.sender ∷ []) st.mail) letters sender target) does.letters
+              ∙ ap (λ (l : List TypedValue). unpicked (Function letter.target) (letter.sender ∷ []) st.mail sender target ++ l) (arguments-waiting sender target [])
+              ∙ append-nil (unpicked (Function letter.target) (letter.sender ∷ []) st.mail sender target)
               ∙ unpicked-front st.mail letter others (λ s t. so.mail s t ∙ ap (waiting_of s t) front) sender target;
-          cells = so.cells;
-          seen = λ address. seen_none (same_address letter.target address) (st.seen address) (so.seen address);
+          cells = λ address. cells_left (same_sender (Function letter.target) (Function address)) reply does.effects own (st.own (Function address)) does.mutations (so.cells address);
+          seen = λ address. seen_left (same_sender (Function letter.target) (Function address)) reply does.effects own (st.own (Function address)) refl (so.seen address);
           kinds = (subst (AllFor kind) front so.kinds).1;
         },
       )
@@ -158,28 +186,30 @@ module _ (kind : TypeName) (url value_type : List ℕ) (egress : TypeName) where
       let t = take_stands lists r.state work turn found r.stands (there found refl) in
       record { state = t.0; replays = replayed_push_on job lists first_state r.state work.entries (take_entry turn) r.replays ∙ t.1; stands = t.2 }
 
-  pub judged_replays : (lists : Lists) (turn : ℕ) (read : Option IngressRecord) (letter : Letter) (others : List Letter) (answer : List ℕ) (work : Work) (events : List LinkEvent) (judged : Judged) → work.waiting ≡ letter ∷ others → length (to_spelling (request_for letter)) < 2 ^ 64 → verdict job.egresses answer ≡ judged → Replays lists work → Replays lists (judged_turn turn read letter.sender letter.target others answer work events judged).work
-  judged_replays lists turn read letter others answer work events (Flaw flaw) front short v r = r
-  judged_replays lists turn read letter others answer work events (Accept response) front short v r =
+  pub judged_replays : (lists : Lists) (turn : ℕ) (read : Option IngressRecord) (letter : Letter) (others : List Letter) (answer : List ℕ) (work : Work) (events : List LinkEvent) (plain : PlainAnswer) → work.waiting ≡ letter ∷ others → length (to_spelling (request_for letter)) < 2 ^ 64 → plain_answer job letter.target answer ≡ plain → Replays lists work → Replays lists (judged_turn turn read letter.sender letter.target others answer work events plain).work
+  judged_replays lists turn read letter others answer work events (Refused flaw) front short v r = r
+  judged_replays lists turn read letter others answer work events TooMuch front short v r = r
+  judged_replays lists turn read letter others answer work events (Served records) front short v r =
       let entry = batch_entry turn read letter.sender letter.target answer in
-      let b = batch_stands r.state work turn letter others answer response (work.entries ++ entry ∷ []) r.stands front short v in
+      let b = batch_stands lists r.state work turn letter others answer records (work.entries ++ entry ∷ []) r.stands front short v in
       record { state = b.0; replays = replayed_push_on job lists first_state r.state work.entries entry r.replays ∙ b.1; stands = b.2 }
 
   pub fated_replays : (lists : Lists) (turn : ℕ) (read : Option IngressRecord) (letter : Letter) (others : List Letter) (work : Work) (events : List LinkEvent) (fate : Fate) → work.waiting ≡ letter ∷ others → length (to_spelling (request_for letter)) < 2 ^ 64 → Replays lists work → Replays lists (fated_turn job turn read letter.sender letter.target others work events fate).work
   fated_replays lists turn read letter others work events Open front short r = r
   fated_replays lists turn read letter others work events TooLate front short r = r
   fated_replays lists turn read letter others work events (Told (NoAnswer note)) front short r = r
-  fated_replays lists turn read letter others work events (Told (Answer answer)) front short r = judged_replays lists turn read letter others answer work events (verdict job.egresses answer) front short refl r
+  fated_replays lists turn read letter others work events (Told (Answer answer)) front short r = judged_replays lists turn read letter others answer work events (plain_answer job letter.target answer) front short refl r
 
   pub fated-events : (turn : ℕ) (read : Option IngressRecord) (letter : Letter) (others : List Letter) (work : Work) (events : List LinkEvent) (fate : Fate) → (fated_turn job turn read letter.sender letter.target others work events fate).events ≡ events
   fated-events turn read letter others work events Open = refl
   fated-events turn read letter others work events TooLate = refl
   fated-events turn read letter others work events (Told (NoAnswer note)) = refl
-  fated-events turn read letter others work events (Told (Answer answer)) = by_judged (verdict job.egresses answer)
+  fated-events turn read letter others work events (Told (Answer answer)) = by_judged (plain_answer job letter.target answer)
     where
-      by_judged : (judged : Judged) → (judged_turn turn read letter.sender letter.target others answer work events judged).events ≡ events
-      by_judged (Accept response) = refl
-      by_judged (Flaw flaw) = refl
+      by_judged : (plain : PlainAnswer) → (judged_turn turn read letter.sender letter.target others answer work events plain).events ≡ events
+      by_judged (Served records) = refl
+      by_judged TooMuch = refl
+      by_judged (Refused flaw) = refl
 
   pub started_replays : (lists : Lists) (patience turn : ℕ) (heard : Heard) (started : Bool) (work : Work) (letter : Letter) (others : List Letter) → work.waiting ≡ letter ∷ others
       → AreShort (cond started (fated_turn job turn heard.read letter.sender letter.target others work (start_of job turn letter ∷ map Polled heard.polls) (fate_of patience (call_in turn) heard.polls)) (record { work = work; events = []; status = Cut })).events

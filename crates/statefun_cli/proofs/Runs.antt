@@ -17,13 +17,13 @@ use Rattle.sf_outside.specs.Splits.{Lists, split_of, Grows, Reads}
 use Rattle.typed_values.specs.declared.address.Address.{Address}
 use Rattle.typed_values.specs.declared.letter.Sender.{Sender}
 use Rattle.typed_values.specs.declared.letter.Letter.{Letter}
-use Rattle.request_reply.specs.declared.judging.Judged.{Judged}
-use Rattle.request_reply.specs.declared.judging.Judged.TheVariants.{Accept, Flaw}
-use Rattle.request_reply.specs.Valid.{verdict}
-use Rattle.run_record.specs.declared.module.Module.{Module}
+use Rattle.statefun_cli.specs.declared.plain_answer.PlainAnswer.{PlainAnswer}
+use Rattle.statefun_cli.specs.declared.plain_answer.PlainAnswer.TheVariants.{Served, TooMuch, Refused}
+use Rattle.statefun_cli.specs.PlainAnswers.{plain_answer}
+use Rattle.address_routing.specs.declared.module.Module.{Module}
 use Rattle.run_record.specs.declared.entry.Entry.{Entry}
 use Rattle.statefun_cli.specs.declared.end.PlainEnd.{PlainEnd}
-use Rattle.statefun_cli.specs.declared.end.PlainEnd.TheVariants.{Done, Usage, TurnsSpent, EndpointFailed, IngressFault, LinkFault, SinkFault, OutOfMemory}
+use Rattle.statefun_cli.specs.declared.end.PlainEnd.TheVariants.{Done, Usage, TurnsSpent, EndpointFailed, NotServed, IngressFault, LinkFault, SinkFault, OutOfMemory}
 use Rattle.statefun_cli.specs.Turns.{Heard, Work, Status, Going, Cut, Ended, Turned, Fate, Open, TooLate, Told, call_in, fate_of, work_read, status_at, judged_turn, fated_turn, asked_turn, start_of, turned, behind, go_on, turns_from, turns_of, no_work, records_heard}
 use Rattle.statefun_cli.specs.Polling.{IsOwnAnswer}
 use Rattle.sf_outside.specs.declared.fault.Fault.{Fault}
@@ -66,15 +66,16 @@ turns_from-push m patience turn number (heard ∷ later) last work n g =
 
 -- ---- what a turn takes
 
-judged-taken : (turn : ℕ) (read : Option IngressRecord) (sender : Sender) (target : Address) (others : List Letter) (answer : List ℕ) (work : Work) (events : List LinkEvent) (j : Judged) → (judged_turn turn read sender target others answer work events j).work.taken ≡ work.taken
-judged-taken turn read sender target others answer work events (Accept response) = refl
-judged-taken turn read sender target others answer work events (Flaw flaw) = refl
+judged-taken : (turn : ℕ) (read : Option IngressRecord) (sender : Sender) (target : Address) (others : List Letter) (answer : List ℕ) (work : Work) (events : List LinkEvent) (j : PlainAnswer) → (judged_turn turn read sender target others answer work events j).work.taken ≡ work.taken
+judged-taken turn read sender target others answer work events (Served records) = refl
+judged-taken turn read sender target others answer work events TooMuch = refl
+judged-taken turn read sender target others answer work events (Refused flaw) = refl
 
 fated-taken : (m : Module) (turn : ℕ) (read : Option IngressRecord) (sender : Sender) (target : Address) (others : List Letter) (work : Work) (events : List LinkEvent) (fate : Fate) → (fated_turn m turn read sender target others work events fate).work.taken ≡ work.taken
 fated-taken m turn read sender target others work events Open = refl
 fated-taken m turn read sender target others work events TooLate = refl
 fated-taken m turn read sender target others work events (Told (NoAnswer note)) = refl
-fated-taken m turn read sender target others work events (Told (Answer answer)) = judged-taken turn read sender target others answer work events (verdict m.egresses answer)
+fated-taken m turn read sender target others work events (Told (Answer answer)) = judged-taken turn read sender target others answer work events (plain_answer m target answer)
 
 asked-taken : (m : Module) (patience turn : ℕ) (heard : Heard) (work : Work) (waiting : List Letter) → (asked_turn m patience turn heard work waiting).work.taken ≡ work.taken
 asked-taken m patience turn heard work [] = refl
@@ -98,15 +99,16 @@ status-done : (read : Option IngressRecord) (work : Work) (taken : ℕ) → stat
 status-done None work taken e = refl
 status-done (Some record_read) work taken e = absurd cc
 
-judged-done : (turn : ℕ) (read : Option IngressRecord) (sender : Sender) (target : Address) (others : List Letter) (answer : List ℕ) (work : Work) (events : List LinkEvent) (j : Judged) (taken : ℕ) → (judged_turn turn read sender target others answer work events j).status ≡ Ended (Done taken) → read ≡ None
-judged-done turn read sender target others answer work events (Accept response) taken e = status-done read (judged_turn turn read sender target others answer work events (Accept response)).work taken e
-judged-done turn read sender target others answer work events (Flaw flaw) taken e = absurd cc
+judged-done : (turn : ℕ) (read : Option IngressRecord) (sender : Sender) (target : Address) (others : List Letter) (answer : List ℕ) (work : Work) (events : List LinkEvent) (j : PlainAnswer) (taken : ℕ) → (judged_turn turn read sender target others answer work events j).status ≡ Ended (Done taken) → read ≡ None
+judged-done turn read sender target others answer work events (Served records) taken e = status-done read (judged_turn turn read sender target others answer work events (Served records)).work taken e
+judged-done turn read sender target others answer work events TooMuch taken e = absurd cc
+judged-done turn read sender target others answer work events (Refused flaw) taken e = absurd cc
 
 fated-done : (m : Module) (turn : ℕ) (read : Option IngressRecord) (sender : Sender) (target : Address) (others : List Letter) (work : Work) (events : List LinkEvent) (fate : Fate) (taken : ℕ) → (fated_turn m turn read sender target others work events fate).status ≡ Ended (Done taken) → read ≡ None
 fated-done m turn read sender target others work events Open taken e = absurd cc
 fated-done m turn read sender target others work events TooLate taken e = absurd cc
 fated-done m turn read sender target others work events (Told (NoAnswer note)) taken e = absurd cc
-fated-done m turn read sender target others work events (Told (Answer answer)) taken e = judged-done turn read sender target others answer work events (verdict m.egresses answer) taken e
+fated-done m turn read sender target others work events (Told (Answer answer)) taken e = judged-done turn read sender target others answer work events (plain_answer m target answer) taken e
 
 asked-done : (m : Module) (patience turn : ℕ) (heard : Heard) (work : Work) (waiting : List Letter) (taken : ℕ) → (asked_turn m patience turn heard work waiting).status ≡ Ended (Done taken) → heard.read ≡ None
 asked-done m patience turn heard work [] taken e = status-done heard.read work taken e
@@ -294,6 +296,7 @@ end_behind events t turns made entries (Done taken) e = e
 end_behind events t turns made entries (Usage word) e = absurd e
 end_behind events t turns made entries (TurnsSpent taken) e = absurd e
 end_behind events t turns made entries (EndpointFailed address reasons) e = e
+end_behind events t turns made entries (NotServed address) e = e
 end_behind events t turns made entries IngressFault e = e
 end_behind events t turns made entries LinkFault e = e
 end_behind events t turns made entries SinkFault e = e
@@ -305,6 +308,7 @@ done_read m patience turn heard work entries (Done taken) e d = turned-done m pa
 done_read m patience turn heard work entries (Usage word) e d = absurd cc
 done_read m patience turn heard work entries (TurnsSpent taken) e d = absurd cc
 done_read m patience turn heard work entries (EndpointFailed address reasons) e d = absurd cc
+done_read m patience turn heard work entries (NotServed address) e d = absurd cc
 done_read m patience turn heard work entries IngressFault e d = absurd cc
 done_read m patience turn heard work entries LinkFault e d = absurd cc
 done_read m patience turn heard work entries SinkFault e d = absurd cc
@@ -361,7 +365,7 @@ ends_spent m patience turns made lists before after exchanges work e so =
 -- a run that has done nothing has no text
 pub text_none : (m : Module) (text : List ℕ) (work : Work) → text ≡ [] → work ≡ no_work → IsTextOf m text work.entries
 unfolding egress_of egress_text
-text_none m text work e w = e ∙ ap (λ (x : Work). egress_text (egress_of m x.entries)) (sym w)
+text_none m text work e w = e ∙ ap (λ (x : Work). egress_text (egress_of x.entries)) (sym w)
 
 pub text_kept : (m : Module) (text : List ℕ) (entries : List Entry) → IsTurnText m text entries None → IsTextOf m text entries
 text_kept m text entries e = e
@@ -371,6 +375,7 @@ no_sink_from (Done taken) h = tt
 no_sink_from (Usage word) h = tt
 no_sink_from (TurnsSpent taken) h = tt
 no_sink_from (EndpointFailed address reasons) h = tt
+no_sink_from (NotServed address) h = tt
 no_sink_from IngressFault h = tt
 no_sink_from LinkFault h = tt
 no_sink_from SinkFault h = absurd h

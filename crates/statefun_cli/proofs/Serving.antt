@@ -14,14 +14,14 @@ use Rattle.sf_outside.specs.declared.fault.Fault.TheVariants as faults
 use Rattle.sf_outside.specs.declared.ingress.IngressRecord.{IngressRecord}
 use Rattle.sf_outside.specs.Told.{more, more-nil, more-more}
 use Rattle.typed_values.specs.declared.letter.Letter.{Letter}
-use Rattle.request_reply.specs.declared.judging.Judged.{Judged}
-use Rattle.request_reply.specs.declared.judging.Judged.TheVariants.{Accept, Flaw}
+use Rattle.statefun_cli.specs.declared.plain_answer.PlainAnswer.{PlainAnswer}
+use Rattle.statefun_cli.specs.declared.plain_answer.PlainAnswer.TheVariants.{Served, TooMuch, Refused}
 use Rattle.request_reply.specs.Spelling.{to_spelling}
-use Rattle.request_reply.specs.Valid.{verdict}
-use Rattle.run_record.specs.declared.module.Module.{Module}
+use Rattle.statefun_cli.specs.PlainAnswers.{plain_answer}
+use Rattle.address_routing.specs.declared.module.Module.{Module}
 use Rattle.run_record.specs.declared.entry.Entry.{Entry}
 use Rattle.statefun_cli.specs.declared.end.PlainEnd.{PlainEnd}
-use Rattle.statefun_cli.specs.declared.end.PlainEnd.TheVariants.{Done, Usage, TurnsSpent, EndpointFailed, IngressFault, LinkFault, SinkFault, OutOfMemory}
+use Rattle.statefun_cli.specs.declared.end.PlainEnd.TheVariants.{Done, Usage, TurnsSpent, EndpointFailed, NotServed, IngressFault, LinkFault, SinkFault, OutOfMemory}
 use Rattle.statefun_cli.specs.Turns.{Heard, Work, Turned, Fate, Open, TooLate, Told, call_in, own_outcome, fate_by, fate_of, AreItsPolls, start_of, request_for, judged_turn, fated_turn, asked_turn}
 use Rattle.statefun_cli.specs.Polling.{IsWaited, IsOwnAnswer, IsFateOf}
 use Rattle.statefun_cli.specs.Progress.{IsFront, IsTurnEnd, IsCalm, fate_told}
@@ -32,6 +32,7 @@ pub calm_own : (end : Option PlainEnd) → IsCalm end → IsTurnsOwn end
 calm_own None h = tt
 calm_own (Some (Done taken)) h = tt
 calm_own (Some (EndpointFailed address reasons)) h = tt
+calm_own (Some (NotServed address)) h = tt
 calm_own (Some OutOfMemory) h = tt
 calm_own (Some (Usage word)) h = absurd h
 calm_own (Some (TurnsSpent taken)) h = absurd h
@@ -83,12 +84,13 @@ module _ (m : Module) (patience turn : ℕ) (read : Option IngressRecord) (lette
   fated-events events TooLate = refl
   fated-events events (Told what) = by_what what
     where
-      judged-events : (answer : List ℕ) (judged : Judged) → (judged_turn turn read letter.sender letter.target others answer work events judged).events ≡ events
-      judged-events answer (Accept response) = refl
-      judged-events answer (Flaw flaw) = refl
+      judged-events : (answer : List ℕ) (given : PlainAnswer) → (judged_turn turn read letter.sender letter.target others answer work events given).events ≡ events
+      judged-events answer (Served records) = refl
+      judged-events answer TooMuch = refl
+      judged-events answer (Refused flaw) = refl
 
       by_what : (what : Answered) → (fated_turn m turn read letter.sender letter.target others work events (Told what)).events ≡ events
-      by_what (Answer answer) = judged-events answer (verdict m.egresses answer)
+      by_what (Answer answer) = judged-events answer (plain_answer m letter.target answer)
       by_what (Lost note) = refl
 
   is_heard_of : (polls : List (Option Outcome)) (middle : Option (List LinkEvent)) → length (to_spelling (request_for letter)) < 2 ^ 64 → AreItsPolls patience (call_in turn) polls → middle ≡ more before (start_of m turn letter ∷ []) → after ≡ more middle (map Polled polls)

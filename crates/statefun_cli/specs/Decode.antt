@@ -1,12 +1,11 @@
 -- What `statefun decode` writes, and when.
-use Rattle.std.specs.Prelude.{◌≡◌, ◌⊎◌, ◌≤◌, ◌+◌, ℕ, List, [], ◌∷◌, ◌++◌, codes, length, take, nat_lt, if◌then◌else◌, Option, Some, None, Result, Ok, Err}
+use Rattle.std.specs.Prelude.{◌≡◌, ◌⊎◌, ℕ, List, [], ◌∷◌, ◌++◌, codes, length, nat_lt, if◌then◌else◌, Option, Some, None, Result, Ok, Err}
 use Rattle.proto_wire.specs.declared.fault.WireFault.{WireFault}
 use Rattle.proto_wire.specs.declared.fault.WireKind.TheVariants.{OverLimit}
 use Rattle.proto_wire.specs.Varint.{◌>>=◌}
 use Rattle.sf_outside.specs.declared.fault.Fault.{Fault}
 use Rattle.sf_outside.specs.declared.fault.Fault.TheVariants.{Failed, OutOfMemory}
-use Rattle.sf_outside.specs.Told.{HasCause, more}
-use Rattle.sf_outside.specs.Left.{AtEnd, ahead}
+use Rattle.sf_outside.specs.Told.{HasCause}
 use Rattle.request_reply.specs.Spelling.{to_value, from_value}
 use Rattle.message_text.specs.Lines.{answer_lines, fault_line, request_lines}
 use Rattle.statefun_cli.specs.declared.decode_words.MessageKind.{MessageKind}
@@ -16,6 +15,7 @@ use Rattle.statefun_cli.specs.declared.decode_words.DecodeAsk.TheVariants.{Lines
 use Rattle.statefun_cli.specs.declared.decode.DecodeEnd.{DecodeEnd}
 use Rattle.statefun_cli.specs.declared.decode.DecodeEnd.TheVariants.{Decoded, Faulty, Help, Usage, ReadFault}
 use Rattle.statefun_cli.specs.DecodeWords.{AsksFor}
+use Rattle.statefun_cli.specs.Outside.{Outside, IsRead, IsUnread, Reader, Tells, usage_line}
 
 -- ---- the text
 
@@ -65,61 +65,28 @@ help_text =
     ++ (codes "  <KIND>  What is decoded: a request to a function or an answer from one [possible values: to, from]\n\n"
     ++ codes "Options:\n  -h, --help  Print help\n")
 
--- ---- what stands outside
+-- ---- runs
 
--- what a source has left and a sink holds, where they tell it, and how often each failed
-pub record Outside : Type 0 where
-  pub left : Option (List ℕ)
-  pub read_faults : ℕ
-  pub written : Option (List ℕ)
-  pub write_faults : ℕ
-
-abbrev pub outside : Option (List ℕ) → ℕ → Option (List ℕ) → ℕ → Outside
-outside left read_faults written write_faults = record {
-  left = left;
-  read_faults = read_faults;
-  written = written;
-  write_faults = write_faults;
+-- what is made of a source
+abbrev pub reader : MessageKind → Reader DecodeEnd
+reader kind = record {
+  limit = limit;
+  text = decode_text kind;
+  ending = decode_end kind;
+  fault_text = codes "read fault" ++ 10 ∷ [];
+  fault_ending = ReadFault;
 }
 
--- nothing was read
-abbrev pub IsUnread : Outside → Outside → Type 0
-IsUnread before after = (after.left ≡ before.left) × (after.read_faults ≡ before.read_faults)
-
--- An end was told: its text was written whole. Where the sink failed or memory ran out, a part of it was, from the front.
-abbrev pub Tells : Option (List ℕ) → Option (List ℕ) → List ℕ → DecodeEnd → Result DecodeEnd Fault → Type 0
-Tells before after text told (Ok end) = (end ≡ told) × (after ≡ more before text)
-Tells before after text told (Err fault) = (k : ℕ) × (k ≤ length text) × (after ≡ more before (take k text))
-
--- bytes up to the limit are all that there were
-abbrev pub IsWhole : List ℕ → Option (List ℕ) → Type 0
-IsWhole heard left = length heard ≤ limit → AtEnd left
-
--- What becomes of the bytes that were heard, by how the reading ended: they are all, or too many, and their text is told; a
--- read failed, which is told; or memory ran out.
-abbrev pub IsSettled : Result (Unit {0}) Fault → MessageKind → List ℕ → Outside → Outside → Result DecodeEnd Fault → Type 0
-IsSettled (Ok x) kind heard before after end =
-    IsWhole heard after.left
-    × Tells before.written after.written (decode_text kind heard) (decode_end kind heard) end
-IsSettled (Err Failed) kind heard before after end = Tells before.written after.written (codes "read fault" ++ 10 ∷ []) ReadFault end
-IsSettled (Err OutOfMemory) kind heard before after end = (end ≡ Err OutOfMemory) × (after.written ≡ before.written)
-
--- A message of this kind was read, up to one byte past the limit, and what became of it. The source failed exactly where its
--- reading ended so.
-pub record IsDecoded (kind : MessageKind) (before after : Outside) (end : Result DecodeEnd Fault) : Type 0 where
-  pub heard : List ℕ
-  pub taken : before.left ≡ ahead heard after.left
-  pub bound : length heard ≤ limit + 1
-  pub read : Result (Unit {0}) Fault
-  pub read_cause : HasCause before.read_faults after.read_faults read
-  pub settled : IsSettled read kind heard before after end
+-- A message of this kind was read, and its text is told.
+abbrev pub IsDecoded : MessageKind → Outside → Outside → Result DecodeEnd Fault → Type 0
+IsDecoded kind before after end = IsRead (reader kind) before after end
 
 -- what was asked for was done; nothing where memory ran out at the words
 abbrev pub IsAnswered : Option DecodeAsk → Outside → Outside → Result DecodeEnd Fault → Type 0
 IsAnswered None before after end = IsUnread before after × (end ≡ Err OutOfMemory) × (after.written ≡ before.written)
 IsAnswered (Some (Lines kind)) before after end = IsDecoded kind before after end
 IsAnswered (Some HelpAsked) before after end = IsUnread before after × Tells before.written after.written help_text Help end
-IsAnswered (Some UsageAsked) before after end = IsUnread before after × Tells before.written after.written (codes "usage" ++ 10 ∷ []) Usage end
+IsAnswered (Some UsageAsked) before after end = IsUnread before after × Tells before.written after.written usage_line Usage end
 
 abbrev pub IsAsked : List (List ℕ) → Option DecodeAsk → Type 0
 IsAsked words None = Unit {0}

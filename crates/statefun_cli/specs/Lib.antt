@@ -1,3 +1,4 @@
+pub mod PlainAnswers
 pub mod Turns
 pub mod Polling
 pub mod Progress
@@ -8,4 +9,7 @@ pub mod Running
 pub mod Plain
 pub mod Kinds
 pub mod DecodeWords
+pub mod Outside
 pub mod Decode
+pub mod CheckWords
+pub mod Check

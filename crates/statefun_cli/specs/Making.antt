@@ -9,7 +9,7 @@ use Rattle.sf_outside.specs.declared.fault.Fault.TheVariants as faults
 use Rattle.sf_outside.specs.declared.ingress.IngressRecord.{IngressRecord}
 use Rattle.sf_outside.specs.Told.{more, Rose}
 use Rattle.typed_values.specs.declared.letter.Letter.{Letter}
-use Rattle.run_record.specs.declared.module.Module.{Module}
+use Rattle.address_routing.specs.declared.module.Module.{Module}
 use Rattle.statefun_cli.specs.declared.end.PlainEnd.{PlainEnd}
 use Rattle.statefun_cli.specs.declared.end.PlainEnd.TheVariants.{Usage, TurnsSpent, IngressFault, LinkFault, SinkFault, OutOfMemory}
 use Rattle.statefun_cli.specs.Turns.{Heard, Work, Turned, call_in, own_outcome, AreItsPolls, asked_turn, turned}

@@ -4,20 +4,21 @@ use Rattle.sf_outside.specs.declared.call.LinkEvent.{LinkEvent}
 use Rattle.sf_outside.specs.declared.call.Exchange.{Exchange}
 use Rattle.sf_outside.specs.Told.{more, Rose}
 use Rattle.sf_outside.specs.Splits.{Lists}
-use Rattle.run_record.specs.declared.module.Module.{Module}
+use Rattle.address_routing.specs.declared.module.Module.{Module}
 use Rattle.run_record.specs.declared.entry.Entry.{Entry}
 use Rattle.typed_values.specs.declared.name.TypeName.{TypeName}
 use Rattle.typed_values.specs.declared.address.Address.{Address}
-use Rattle.run_record.specs.Machine.{State, first_state, replayed}
-use Rattle.run_record.specs.Egress.{arguments_at, egress_of, egress_text}
+use Rattle.run_record.specs.Machine.{State, first_state, arguments_at}
+use Rattle.run_record.specs.Record.{replayed}
+use Rattle.run_record.specs.Egress.{egress_of, egress_text}
 use Rattle.run_record.specs.Backed.{AreBacked}
 use Rattle.run_record.specs.declared.entry.Step.{Step}
-use Rattle.run_record.specs.declared.entry.Step.TheVariants.{Take, Batch}
+use Rattle.run_record.specs.declared.entry.Step.TheVariants.{Take, Batch, Register, Due}
 use Rattle.statefun_cli.specs.Making.{LegsBelow}
 use Rattle.sf_outside.specs.declared.call.Answered.TheVariants.{Answer}
-use Rattle.request_reply.specs.declared.answer.InvocationResponse.{InvocationResponse}
-use Rattle.request_reply.specs.declared.judging.Judged.TheVariants.{Accept}
-use Rattle.request_reply.specs.Valid.{verdict}
+use Rattle.statefun_cli.specs.declared.plain_answer.PlainAnswer.{PlainAnswer}
+use Rattle.statefun_cli.specs.declared.plain_answer.PlainAnswer.TheVariants.{Served, TooMuch, Refused}
+use Rattle.statefun_cli.specs.PlainAnswers.{plain_answer}
 use Rattle.statefun_cli.specs.Turns.{Heard, call_in, own_outcome, turns_of}
 use Rattle.statefun_cli.specs.declared.end.PlainEnd.{PlainEnd}
 use Rattle.statefun_cli.specs.declared.end.PlainEnd.TheVariants.{Done, Usage, TurnsSpent, IngressFault, LinkFault, SinkFault, OutOfMemory}
@@ -57,7 +58,7 @@ pub record IsPlainRun
     (written written' : Option (List ℕ)) (counts counts' : Counts) (entries : List Entry) (end : PlainEnd) : Type 0 where
   pub told : PlainEnd
   pub run : IsRun m patience turns lists before after exchanges entries told
-  pub tells : IsTold written written' (egress_text (egress_of m entries)) turns told end
+  pub tells : IsTold written written' (egress_text (egress_of entries)) turns told end
   pub ingress_cause : IsIngressCauseOf counts.ingress_faults counts'.ingress_faults told
   pub link_cause : IsLinkCauseOf counts.link_faults counts'.link_faults told
   pub lost : ends_lost (Some told) ≡ true → Rose counts.losses counts'.losses
@@ -72,12 +73,14 @@ pub record IsUsage (word : ℕ) (written written' : Option (List ℕ)) (entries 
 pub record IsReplayed (m : Module) (lists : Lists) (entries : List Entry) : Type 0 where
   pub state : State
   pub replays : replayed m lists first_state entries ≡ Some state
-  pub egress : (address : Address) (name : TypeName) → state.egress address name ≡ arguments_at address name (egress_of m entries)
+  pub egress : (address : Address) (name : TypeName) → state.egress address name ≡ arguments_at address name (egress_of entries)
 
 -- the legs of a record's calls, in its order
 abbrev pub legs_of_step : Step → List ℕ
 legs_of_step (Take split) = []
 legs_of_step (Batch reply) = reply.call.leg ∷ []
+legs_of_step (Register reply) = reply.call.leg ∷ []
+legs_of_step (Due address moment) = []
 
 abbrev pub legs_of : List Entry → List ℕ
 legs_of [] = []
@@ -105,12 +108,17 @@ IsFaultCause counts counts' IngressFault = Rose counts.ingress_faults counts'.in
 IsFaultCause counts counts' LinkFault = Rose counts.link_faults counts'.link_faults
 IsFaultCause counts counts' end = Unit {0}
 
--- a turn's call was answered by a valid answer before it was late
+-- the run does what the answer asks for
+abbrev pub Serves : PlainAnswer → Type 0
+Serves (Served records) = Unit {0}
+Serves TooMuch = ⊥
+Serves (Refused flaw) = ⊥
+
+-- a turn's call was answered before it was late, and the run does what the answer asks for
 pub record IsServed (m : Module) (turn : ℕ) (heard : Heard) : Type 0 where
   pub answer : List ℕ
   pub own : own_outcome (call_in turn) heard.polls ≡ Some (Answer answer)
-  pub response : InvocationResponse
-  pub valid : verdict m.egresses answer ≡ Accept response
+  pub valid : (target : Address) → Serves (plain_answer m target answer)
 
 -- and so each call that was started in the turns from this number on
 abbrev pub AreServed : Module → ℕ → List Heard → Type 0
@@ -123,8 +131,8 @@ IsComplete (TurnsSpent taken) = Unit {0}
 IsComplete OutOfMemory = Unit {0}
 IsComplete end = ⊥
 
--- Something was heard, which is what the link did, such that where no count rose and each call was answered by a valid answer
--- before it was late, the run was done, made all its turns, or ran out of memory.
+-- Something was heard, which is what the link did, such that where no count rose and each call was answered before it was late by an
+-- answer that asks for no more than the run does, the run was done, made all its turns, or ran out of memory.
 pub record IsCompleteRun
     (m : Module) (patience : ℕ) (before after : Option (List LinkEvent)) (counts counts' : Counts) (sink sink' : ℕ) (end : PlainEnd) : Type 0 where
   pub heard : List Heard

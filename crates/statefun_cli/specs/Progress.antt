@@ -5,11 +5,12 @@ use Rattle.sf_outside.specs.declared.call.Answered.TheVariants.{Lost as NoAnswer
 use Rattle.typed_values.specs.declared.letter.Letter.{Letter}
 use Rattle.request_reply.specs.declared.flaw.Reason.{Reason}
 use Rattle.request_reply.specs.declared.flaw.Reason.TheVariants.{Lost}
-use Rattle.run_record.specs.declared.module.Module.{Module}
+use Rattle.address_routing.specs.declared.module.Module.{Module}
 use Rattle.run_record.specs.declared.entry.Entry.{Entry}
 use Rattle.run_record.specs.Egress.{egress_of, egress_text}
 use Rattle.statefun_cli.specs.declared.end.PlainEnd.{PlainEnd}
-use Rattle.statefun_cli.specs.declared.end.PlainEnd.TheVariants.{Done, Usage, TurnsSpent, EndpointFailed, IngressFault, LinkFault, SinkFault, OutOfMemory}
+use Rattle.statefun_cli.specs.declared.end.PlainEnd.TheVariants.{Done, Usage, TurnsSpent, EndpointFailed}
+use Rattle.statefun_cli.specs.declared.end.PlainEnd.TheVariants.{IngressFault, LinkFault, SinkFault, OutOfMemory, NotServed}
 use Rattle.statefun_cli.specs.declared.progress.Progress.{Progress}
 use Rattle.statefun_cli.specs.Turns.{Work, Turned, Status, Going, Ended, Fate, TooLate, Told}
 
@@ -22,7 +23,7 @@ IsFront {A} front whole = (rest : List A) × (whole ≡ front ++ rest)
 
 -- the text is that of the record's egress
 abbrev pub IsTextOf : Module → List ℕ → List Entry → Type 0
-IsTextOf m text entries = text ≡ egress_text (egress_of m entries)
+IsTextOf m text entries = text ≡ egress_text (egress_of entries)
 
 -- A run ends as its turns say. Where a fault or want of memory cut it short, its record is a front of theirs.
 abbrev pub IsEndOf : Turned → List Entry → PlainEnd → Type 0
@@ -34,6 +35,7 @@ IsEndOf t entries (Done taken) = (t.status ≡ Ended (Done taken)) × (entries �
 IsEndOf t entries (Usage word) = ⊥
 IsEndOf t entries (TurnsSpent taken) = ⊥
 IsEndOf t entries (EndpointFailed address reasons) = (t.status ≡ Ended (EndpointFailed address reasons)) × (entries ≡ t.work.entries)
+IsEndOf t entries (NotServed address) = (t.status ≡ Ended (NotServed address)) × (entries ≡ t.work.entries)
 
 -- what a turn answers: nothing where the run goes on
 abbrev pub IsTurnEnd : Turned → Work → Option PlainEnd → Type 0

@@ -8,10 +8,11 @@ use Rattle.sf_outside.specs.declared.fault.Fault.{Fault}
 use Rattle.sf_outside.specs.declared.fault.Fault.TheVariants as faults
 use Rattle.sf_outside.specs.Told.{more, Rose}
 use Rattle.sf_outside.specs.Splits.{Lists, split_of}
-use Rattle.run_record.specs.declared.module.Module.{Module}
+use Rattle.address_routing.specs.declared.module.Module.{Module}
 use Rattle.run_record.specs.declared.entry.Entry.{Entry}
 use Rattle.statefun_cli.specs.declared.end.PlainEnd.{PlainEnd}
-use Rattle.statefun_cli.specs.declared.end.PlainEnd.TheVariants.{Done, Usage, TurnsSpent, EndpointFailed, IngressFault, LinkFault, SinkFault, OutOfMemory}
+use Rattle.statefun_cli.specs.declared.end.PlainEnd.TheVariants.{Done, Usage, TurnsSpent, EndpointFailed}
+use Rattle.statefun_cli.specs.declared.end.PlainEnd.TheVariants.{NotServed, IngressFault, LinkFault, SinkFault, OutOfMemory}
 use Rattle.statefun_cli.specs.Turns.{Heard, Turned, Going, call_in, own_outcome, AreItsPolls, turns_of, records_heard}
 use Rattle.statefun_cli.specs.Polling.{IsOwnAnswer}
 use Rattle.statefun_cli.specs.Making.{AreShort}
@@ -34,6 +35,7 @@ IsRunEnd t turns made entries (TurnsSpent taken) = (t.status ≡ Going) × (made
 IsRunEnd t turns made entries (Done taken) = IsEndOf t entries (Done taken)
 IsRunEnd t turns made entries (Usage word) = ⊥
 IsRunEnd t turns made entries (EndpointFailed address reasons) = IsEndOf t entries (EndpointFailed address reasons)
+IsRunEnd t turns made entries (NotServed address) = IsEndOf t entries (NotServed address)
 IsRunEnd t turns made entries IngressFault = IsFront entries t.work.entries
 IsRunEnd t turns made entries LinkFault = IsFront entries t.work.entries
 IsRunEnd t turns made entries SinkFault = IsFront entries t.work.entries

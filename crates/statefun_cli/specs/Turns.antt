@@ -14,18 +14,18 @@ use Rattle.typed_values.specs.declared.letter.Letter.{Letter}
 use Rattle.request_reply.specs.declared.request.ToFunction.{ToFunction}
 use Rattle.request_reply.specs.declared.flaw.Reason.{Reason}
 use Rattle.request_reply.specs.declared.flaw.Reason.TheVariants.{Lost, Late, Refused}
-use Rattle.request_reply.specs.declared.judging.Judged.{Judged}
-use Rattle.request_reply.specs.declared.judging.Judged.TheVariants.{Accept, Flaw}
+use Rattle.statefun_cli.specs.declared.plain_answer.PlainAnswer.{PlainAnswer}
+use Rattle.statefun_cli.specs.declared.plain_answer.PlainAnswer.TheVariants.{Served, TooMuch, Refused as NotValid}
+use Rattle.statefun_cli.specs.PlainAnswers.{plain_answer}
 use Rattle.request_reply.specs.Spelling.{to_spelling}
-use Rattle.request_reply.specs.Valid.{verdict}
-use Rattle.run_record.specs.declared.module.Module.{Module}
+use Rattle.address_routing.specs.declared.module.Module.{Module}
 use Rattle.run_record.specs.declared.entry.Entry.{Entry}
 use Rattle.run_record.specs.declared.entry.Step.TheVariants.{Take, Batch}
-use Rattle.run_record.specs.Routing.{letters_of, url_of}
-use Rattle.request_reply.specs.Letters.{invocation_of}
-use Rattle.run_record.specs.Machine.{batch_of}
+use Rattle.address_routing.specs.Routing.{url_of}
+use Rattle.run_record.specs.Letters.{letters_of}
+use Rattle.invocation.specs.Requests.{request_of}
 use Rattle.statefun_cli.specs.declared.end.PlainEnd.{PlainEnd}
-use Rattle.statefun_cli.specs.declared.end.PlainEnd.TheVariants.{Done, EndpointFailed}
+use Rattle.statefun_cli.specs.declared.end.PlainEnd.TheVariants.{Done, EndpointFailed, NotServed}
 
 -- ---- what was heard
 
@@ -113,7 +113,7 @@ work_read m turn (Some taken) work = record {
 
 -- the request for a letter: a batch of it alone
 abbrev pub request_for : Letter → ToFunction
-request_for letter = batch_of letter.target [] (invocation_of letter ∷ [])
+request_for letter = request_of letter.target [] 0 (letter ∷ [])
 
 abbrev pub start_of : Module → ℕ → Letter → LinkEvent
 start_of m turn letter = Started (call_in turn) (unwrap_or (url_of m letter.target.kind) []) (to_spelling (request_for letter))
@@ -150,11 +150,12 @@ work_served turn read sender target others answer work = record {
 abbrev pub failed : Address → Reason → Status
 failed target reason = Ended (EndpointFailed target (reason ∷ []))
 
-abbrev pub judged_turn : ℕ → Option IngressRecord → Sender → Address → List Letter → List ℕ → Work → List LinkEvent → Judged → Turned
-judged_turn turn read sender target others answer work events (Accept response) =
+abbrev pub judged_turn : ℕ → Option IngressRecord → Sender → Address → List Letter → List ℕ → Work → List LinkEvent → PlainAnswer → Turned
+judged_turn turn read sender target others answer work events (Served records) =
     let served = work_served turn read sender target others answer work in
     record { work = served; events = events; status = status_at read served }
-judged_turn turn read sender target others answer work events (Flaw flaw) =
+judged_turn turn read sender target others answer work events TooMuch = record { work = work; events = events; status = Ended (NotServed target) }
+judged_turn turn read sender target others answer work events (NotValid flaw) =
     record { work = work; events = events; status = failed target (Refused answer flaw) }
 
 abbrev pub fated_turn : Module → ℕ → Option IngressRecord → Sender → Address → List Letter → Work → List LinkEvent → Fate → Turned
@@ -162,7 +163,7 @@ fated_turn m turn read sender target others work events Open = record { work = w
 fated_turn m turn read sender target others work events TooLate = record { work = work; events = events; status = failed target Late }
 fated_turn m turn read sender target others work events (Told (NoAnswer note)) = record { work = work; events = events; status = failed target (Lost note) }
 fated_turn m turn read sender target others work events (Told (Answer answer)) =
-    judged_turn turn read sender target others answer work events (verdict m.egresses answer)
+    judged_turn turn read sender target others answer work events (plain_answer m target answer)
 
 -- the letter that has waited longest is asked for
 abbrev pub asked_turn : Module → ℕ → ℕ → Heard → Work → List Letter → Turned

@@ -8,7 +8,7 @@ use Rattle.std.specs.Str.Parse.{digits_value}
 use Rattle.typed_values.specs.declared.name.TypeName.{TypeName}
 use Rattle.typed_values.specs.Sameness.{same_bytes}
 use Rattle.typed_values.specs.Names.{name_in}
-use Rattle.run_record.specs.declared.module.Module.{Module}
+use Rattle.address_routing.specs.declared.module.Module.{Module}
 use Rattle.statefun_cli.specs.declared.words.Plan.{Plan}
 use Rattle.statefun_cli.specs.declared.words.WordsFault.{WordsFault}
 use Rattle.statefun_cli.specs.declared.words.WordsFault.TheVariants.{Usage, OutOfMemory}

@@ -1,12 +1,13 @@
 //! The request for a letter.
 ghost use Rattle.std.specs.Prelude.{◌≡◌, ◌<◌, ◌^◌, [], ◌∷◌, length, Some, IsSome, IfOk, unwrap_or};
 ghost use Rattle.request_reply.specs.Spelling.{to_spelling};
-ghost use Rattle.run_record.specs.Routing.{url_of};
+ghost use Rattle.address_routing.specs.Routing.{url_of};
 ghost use Rattle.statefun_cli.specs.Turns.{request_for};
 
+use address_routing::Routes;
 use proto_wire::{Bytes, List, Mem, Text};
 use request_reply::{BatchInvocation, InvocationBatchRequest, ToFunction, encode_to};
-use run_record::{Routes, caller_of};
+use run_record::caller_of;
 use std::alloc::Global;
 use typed_values::{Address, Letter, Sender};
 
@@ -20,6 +21,7 @@ pub(crate) struct Asked {
 }
 
 /// The request for a letter, which is moved into it: a batch of this letter alone.
+#[tactic(auto, unfolding(invocation::specs::Requests::request_of))]
 pub(crate) fn ask(alloc: Global, routes: &Routes, letter: Letter) -> Mem<Asked>
     ensures sender { IfOk result (λ asked. asked.sender ≡ letter.sender) }
     ensures target { IfOk result (λ asked. asked.target ≡ letter.target) }

@@ -5,12 +5,14 @@ ghost use Rattle.sf_outside.specs.Told.{HasCause, Rose};
 ghost use Rattle.statefun_cli.specs.declared.decode_words.MessageKind.{MessageKind};
 ghost use Rattle.statefun_cli.specs.Kinds.{word_of};
 ghost use Rattle.statefun_cli.specs.DecodeWords.{IsWrong};
-ghost use Rattle.statefun_cli.specs.Decode.{AsksForHelp, IsAnswered, IsAskedRun, IsDecodeRun, IsDecoded, IsHelpRun, IsRightRun, Tells, decode_end, decode_status, decode_text, outside};
+ghost use Rattle.statefun_cli.specs.Decode.{AsksForHelp, IsAnswered, IsAskedRun, IsDecodeRun, IsDecoded, IsHelpRun, IsRightRun, decode_end, decode_status, decode_text};
+ghost use Rattle.statefun_cli.specs.Outside.{Tells, outside};
 
 use crate::decode_help::help_text;
-use crate::input::read_to_end;
-use crate::message_lines::put_message;
-use crate::{DecodeAsk, MessageKind, read_decode_words, write_whole};
+use crate::input::read_up_to;
+use crate::message_lines::{LIMIT, put_message};
+use crate::output::tell;
+use crate::{DecodeAsk, MessageKind, read_decode_words};
 use proto_wire::Bytes;
 use sf_outside::{Fault, Sink, Source};
 use std::alloc::Global;
@@ -119,7 +121,7 @@ fn decode_input<S: Source, O: Sink>(
         (outside (S.left input.new) (S.faults input.new) (O.written out.new) (O.faults out.new)) result }
     ensures cause { HasCause (O.faults out.old) (O.faults out.new) result }
 {
-    match read_to_end(alloc, input) {
+    match read_up_to(alloc, input, LIMIT) {
         Ok(bytes) => tell_message(alloc, kind, bytes.as_slice(), out),
         Err(Fault::Failed) => tell(out, DecodeEnd::ReadFault, b"read fault\n"),
         Err(Fault::OutOfMemory) => Err(Fault::OutOfMemory),
@@ -139,13 +141,4 @@ fn tell_message<O: Sink>(
     let mut text = Bytes::new(alloc);
     let told = put_message(alloc, &mut text, kind, bytes)?;
     tell(out, told, text.as_slice())
-}
-
-/// Tells an end: writes its text.
-fn tell<O: Sink>(out: &mut O, told: DecodeEnd, text: &[u8]) -> Result<DecodeEnd, Fault>
-    ensures told { Tells (O.written out.old) (O.written out.new) text.now told result }
-    ensures cause { HasCause (O.faults out.old) (O.faults out.new) result }
-{
-    write_whole(out, text)?;
-    Ok(told)
 }

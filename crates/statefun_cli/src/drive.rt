@@ -2,7 +2,7 @@
 ghost use Rattle.std.specs.Prelude.{◌≡◌, ◌<◌, ◌≤◌, Some, true, []};
 ghost use Rattle.sf_outside.specs.Told.{Rose};
 ghost use Rattle.sf_outside.specs.Answers.{Extends};
-ghost use Rattle.run_record.specs.Routing.{splits_in};
+ghost use Rattle.address_routing.specs.Routing.{splits_in};
 ghost use Rattle.statefun_cli.specs.Turns.{no_work};
 ghost use Rattle.statefun_cli.specs.Progress.{work_of, IsTurnText, ends_lost};
 ghost use Rattle.statefun_cli.specs.Running.{IsRun, IsIngressCauseOf, IsLinkCauseOf, IsNoSinkFault, ingress_end};
@@ -10,7 +10,7 @@ ghost use Rattle.statefun_cli.specs.Running.{IsRun, IsIngressCauseOf, IsLinkCaus
 use crate::PlainEnd;
 use crate::progress::Progress;
 use crate::turn::PATIENCE;
-use run_record::Routes;
+use address_routing::Routes;
 use sf_outside::{Fault, Ingress, Link};
 use std::alloc::Global;
 

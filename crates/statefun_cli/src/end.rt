@@ -24,6 +24,10 @@ pub enum PlainEnd {
         address: Address,
         reasons: List<Reason>,
     },
+    /// An answer is valid, but asks for what a run without a folder does not do: cells, letters or delayed letters.
+    NotServed {
+        address: Address,
+    },
     /// The ingress failed.
     IngressFault,
     /// The link failed.

@@ -2,6 +2,9 @@
 #![tactic(auto)]
 
 mod asking;
+mod check;
+mod check_help;
+mod check_words;
 mod decode;
 mod decode_help;
 mod decode_words;
@@ -11,12 +14,15 @@ mod input;
 mod line;
 mod message_lines;
 mod output;
+mod plain_answer;
 mod polling;
 mod progress;
 mod run;
 mod turn;
 mod words;
 
+pub use check::{CheckEnd, statefun_check};
+pub use check_words::{CheckAsk, read_check_words};
 pub use decode::{DecodeEnd, statefun_decode};
 pub use decode_words::{DecodeAsk, MessageKind, UnknownKind, read_decode_words};
 pub use end::{PlainEnd, PlainRun};

@@ -20,6 +20,7 @@ impl PlainEnd {
             PlainEnd::Usage { .. } => 2,
             PlainEnd::TurnsSpent { .. } => 5,
             PlainEnd::EndpointFailed { .. } => 6,
+            PlainEnd::NotServed { .. } => 6,
             PlainEnd::IngressFault => 9,
             PlainEnd::SinkFault => 11,
             PlainEnd::LinkFault => 12,
@@ -46,6 +47,7 @@ impl PlainEnd {
                 address,
                 reasons.as_slice(),
             ),
+            PlainEnd::NotServed { address } => put_not_served(into, address),
             PlainEnd::IngressFault => into.append(b"ingress fault\n"),
             PlainEnd::LinkFault => into.append(b"link fault\n"),
             PlainEnd::SinkFault => Ok(()),
@@ -72,6 +74,16 @@ fn put_failed(into: &mut Bytes, address: &Address, reasons: &[Reason]) -> Mem<()
     into.append(b"endpoint failed ")?;
     put_address_text(into, address)?;
     put_reasons(into, reasons)?;
+    into.push(b'\n')?;
+    Ok(())
+}
+
+fn put_not_served(into: &mut Bytes, address: &Address) -> Mem<()>
+    ensures ok { OnOk result (into.new ≡ into.old ++ (codes "not served " ++ (address_text address.now ++ 10 ∷ []))) }
+    ensures err { OnErr result (StartsAs into.old into.new) }
+{
+    into.append(b"not served ")?;
+    put_address_text(into, address)?;
     into.push(b'\n')?;
     Ok(())
 }
@@ -122,6 +134,5 @@ fn flaw_name(kind: FlawKind) -> &'static str
         FlawKind::BadExpiry => "BadExpiry",
         FlawKind::TooMany => "TooMany",
         FlawKind::NoNewName => "NoNewName",
-        FlawKind::NotBuilt => "NotBuilt",
     }
 }

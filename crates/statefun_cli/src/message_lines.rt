@@ -6,12 +6,14 @@ ghost use Rattle.statefun_cli.specs.declared.decode.DecodeEnd.TheVariants.{Fault
 ghost use Rattle.statefun_cli.specs.declared.decode_words.MessageKind.TheVariants.{Request, Answer};
 ghost use Rattle.statefun_cli.specs.Decode.{decode_end, decode_text, end_by, limit, spelled_lines, text_by};
 
-use crate::input::LIMIT;
 use crate::{DecodeEnd, MessageKind};
 use message_text::{put_answer_lines, put_fault_line, put_request_lines};
 use proto_wire::{Bytes, DecodeFault, Mem, OutOfMemory, WireFault, WireKind};
 use request_reply::{decode_from, decode_to};
 use std::alloc::Global;
+
+/// The most bytes of a message.
+pub(crate) const LIMIT: usize = 8_388_608;
 
 /// Adds the lines of the message that the bytes spell, or the line of their first fault.
 pub(crate) fn put_message(

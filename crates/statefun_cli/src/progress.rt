@@ -2,19 +2,21 @@
 ghost use Rattle.std.specs.Prelude.{◌≡◌, ◌<◌, ◌≤◌, ◌+◌, ◌^◌, [], ◌∷◌, ◌++◌, map, List, OnOk, OnErr, Some, true, false, ◌⊎◌};
 ghost use Rattle.typed_values.specs.declared.letter.Letter.{Letter};
 ghost use Rattle.sf_outside.specs.declared.call.LinkEvent.{LinkEvent};
-ghost use Rattle.request_reply.specs.declared.judging.Judged.TheVariants.{Accept};
-ghost use Rattle.run_record.specs.Routing.{splits_in};
-ghost use Rattle.run_record.specs.Egress.{egress_record, egress_text};
+ghost use Rattle.statefun_cli.specs.declared.plain_answer.PlainAnswer.TheVariants.{Served};
+ghost use Rattle.address_routing.specs.Routing.{splits_in};
+ghost use Rattle.run_record.specs.Egress.{egress_text};
 ghost use Rattle.statefun_cli.specs.Turns.{call_in, batch_of_picks};
 
 use crate::PlainEnd;
+use crate::plain_answer::{PlainAnswer, plain_answer};
+use address_routing::Routes;
 use proto_wire::{Bytes, List, Mem};
-use request_reply::{EgressMessage, InvocationResponse, Judged, Reason, judge};
-use run_record::{Entry, Reply, Routes, Step, put_answer_text};
+use request_reply::Reason;
+use run_record::{Entry, Reply, Step, letters_of, put_egress_text};
 use sf_outside::{Answered, Call, IngressRecord};
 use std::alloc::Global;
 use std::collections::VecDeque;
-use typed_values::{Address, Letter, Sender};
+use typed_values::{Address, EgressRecord, Letter, Sender};
 
 /// What a run has done so far, and the letters that wait.
 #[derive(Drop)]
@@ -76,7 +78,7 @@ impl Progress {
         let Some(record) = read else {
             return Ok(());
         };
-        let mut letters = VecDeque::from(routes.letters(alloc, 0, record)?.into_vec());
+        let mut letters = VecDeque::from(letters_of(alloc, routes, 0, record)?.into_vec());
         self.waiting.append(&mut letters)?;
         self.entries.push(Entry {
             leg: turn,
@@ -97,14 +99,14 @@ impl Progress {
         picks: List<Sender>,
         target: Address,
         answer: Bytes,
-        messages: &[EgressMessage],
+        records: &[EgressRecord],
     ) -> Mem<()>
         ensures ok { OnOk result (self.new.entries ≡ self.old.entries ++ batch_of_picks turn read.now picks target answer ∷ []) }
-        ensures text { OnOk result (self.new.text ≡ self.old.text ++ egress_text (map (egress_record target) messages.now)) }
+        ensures text { OnOk result (self.new.text ≡ self.old.text ++ egress_text records.now) }
         ensures rest { (self.new.taken ≡ self.old.taken) × (self.new.waiting.items ≡ self.old.waiting.items) }
         ensures err { OnErr result (self.new.entries ≡ self.old.entries) }
     {
-        put_answer_text(&mut self.text, &target, messages)?;
+        put_egress_text(&mut self.text, records)?;
         self.entries.push(Entry {
             leg: turn,
             stamp: if read.is_some() { 2 } else { 1 },
@@ -143,11 +145,14 @@ impl Progress {
             None => Reason::Late,
             Some(Answered::Lost(note)) => Reason::Lost(note),
             Some(Answered::Answer(answer)) => {
-                match judge(alloc, answer.as_slice(), &routes.module().egresses) {
+                match plain_answer(alloc, routes, &target, answer.as_slice()) {
                     Err(_) => return Some(PlainEnd::OutOfMemory),
-                    Ok(Judged::Flaw(flaw)) => Reason::Refused { answer, flaw },
-                    Ok(Judged::Accept(response)) => {
-                        return self.served(alloc, turn, read, sender, target, answer, response);
+                    Ok(PlainAnswer::Refused(flaw)) => Reason::Refused { answer, flaw },
+                    Ok(PlainAnswer::TooMuch) => return Some(PlainEnd::NotServed {
+                        address: target,
+                    }),
+                    Ok(PlainAnswer::Served(records)) => {
+                        return self.served(alloc, turn, read, sender, target, answer, records);
                     }
                 }
             }
@@ -164,12 +169,12 @@ impl Progress {
         sender: Sender,
         target: Address,
         answer: Bytes,
-        response: InvocationResponse,
+        records: List<EgressRecord>,
     ) -> Option<PlainEnd>
         ensures end { (letter : Letter) (events : List LinkEvent) →
             IsTurnEnd (judged_turn turn read.now sender target self.old.waiting.items answer
-            (with_front letter (work_of self.old)) events (Accept response)) (work_of self.new) result }
-        ensures text { UnlessMemory result (self.new.text ≡ self.old.text ++ egress_text (map (egress_record target) response.outgoing_egresses)) }
+            (with_front letter (work_of self.old)) events (Served records)) (work_of self.new) result }
+        ensures text { UnlessMemory result (self.new.text ≡ self.old.text ++ egress_text records) }
         ensures calm { IsCalm result }
         ensures entries { UnlessMemory result (self.new.entries ≡ self.old.entries ++ batch_entry turn read.now sender target answer ∷ []) }
         ensures lost { ends_lost result ≡ false }
@@ -178,9 +183,15 @@ impl Progress {
         let Ok(picks) = vec![in alloc; sender] else {
             return Some(PlainEnd::OutOfMemory);
         };
-        let messages = response.outgoing_egresses.as_slice();
         if self
-            .accept(turn, read, List::of(picks), target, answer, messages)
+            .accept(
+                turn,
+                read,
+                List::of(picks),
+                target,
+                answer,
+                records.as_slice(),
+            )
             .is_err()
         {
             return Some(PlainEnd::OutOfMemory);

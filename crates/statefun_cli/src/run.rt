@@ -3,7 +3,7 @@ ghost use Rattle.std.specs.Prelude.{◌≡◌, ◌≤◌, ℕ, [], Ok, Err, IfOk
 ghost use Rattle.std.specs.String.{string_bytes};
 ghost use Rattle.sf_outside.specs.Told.{Rose};
 ghost use Rattle.sf_outside.specs.Answers.{Extends};
-ghost use Rattle.run_record.specs.Routing.{splits_in, is_routable};
+ghost use Rattle.address_routing.specs.Routing.{splits_in, is_routable};
 ghost use Rattle.statefun_cli.specs.Words.{plan_of, IsPlain};
 ghost use Rattle.statefun_cli.specs.Plain.{IsFaultCause, IsCompleteRun, IfFresh, IsBackedRun, IsReplayed, IsTold, IsSinkCauseOf, IsPlainRun, IsUsage, counts_of};
 ghost use Rattle.statefun_cli.specs.Running.{IsNoSinkFault};
@@ -12,8 +12,8 @@ use crate::drive::drive;
 use crate::progress::Progress;
 use crate::turn::PATIENCE;
 use crate::{PlainEnd, PlainRun, Plan, WordsFault, read_words, write_whole};
+use address_routing::Routes;
 use proto_wire::{Bytes, List};
-use run_record::Routes;
 use sf_outside::{Fault, Ingress, Link, Sink};
 use std::alloc::Global;
 

@@ -2,7 +2,7 @@
 ghost use Rattle.std.specs.Prelude.{◌≡◌, ◌<◌, ◌≤◌, ◌+◌, ◌^◌, ◌∷◌, true};
 ghost use Rattle.sf_outside.specs.Told.{Rose};
 ghost use Rattle.sf_outside.specs.Answers.{Extends};
-ghost use Rattle.run_record.specs.Routing.{splits_in};
+ghost use Rattle.address_routing.specs.Routing.{splits_in};
 ghost use Rattle.statefun_cli.specs.Progress.{work_of, IsTextOf, IsTurnText, with_front, ends_lost};
 ghost use Rattle.statefun_cli.specs.Making.{IsAsked, IsTurnMade, IsLinkCause, IsTurnsOwn, link_end};
 
@@ -10,7 +10,7 @@ use crate::PlainEnd;
 use crate::asking::ask;
 use crate::polling::outcome_of;
 use crate::progress::{Progress, call_in};
-use run_record::Routes;
+use address_routing::Routes;
 use sf_outside::{Fault, IngressRecord, Link};
 use std::alloc::Global;
 use typed_values::Letter;

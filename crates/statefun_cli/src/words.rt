@@ -3,12 +3,12 @@ ghost use Rattle.std.specs.Prelude.{◌≡◌, ◌↔◌, ◌≤◌, ◌<◌, sl
 ghost use Rattle.std.specs.Option.{option_copied};
 ghost use Rattle.std.specs.String.{string_bytes};
 ghost use Rattle.typed_values.specs.Names.{name_in};
-ghost use Rattle.run_record.specs.Routing.{is_routable};
+ghost use Rattle.address_routing.specs.Routing.{is_routable};
 ghost use Rattle.statefun_cli.specs.Words.{command_in, url_in, value_type_in, turns_in, turns_within, turns_of, joined_turns_in, read_at, plain_module, plan_of, is_at, IsPlain, IsWrong, IsWrongFrom, Reads};
 ghost use Rattle.statefun_cli.specs.declared.words.WordsFault.TheVariants.{Usage, OutOfMemory as WantsMemory};
 
+use address_routing::{Endpoint, IngressSpec, Module};
 use proto_wire::{List, Mem, OutOfMemory, Text, TryClone};
-use run_record::{Endpoint, IngressSpec, Module};
 use std::alloc::Global;
 use typed_values::{NameFault, TypeName, TypePattern, parse_name};
 

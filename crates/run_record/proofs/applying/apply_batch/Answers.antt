@@ -1,34 +1,58 @@
-use Rattle.std.proofs.Common.{◌∙◌, sym, ap, Option, arith}
-use Rattle.std.specs.Prelude.{is_some, unwrap_or}
-use Rattle.request_reply.specs.Valid.{verdict}
-use Rattle.run_record.specs.Machine.{State}
+use Rattle.std.proofs.Common.{◌∙◌, sym, ap, subst, Option, Some}
+use Rattle.std.specs.Prelude.{IfSome}
+use Rattle.typed_values.specs.declared.letter.Sender.TheVariants.{Function}
+use Rattle.invocation.specs.declared.judging.Judged.{Judged}
+use Rattle.invocation.specs.declared.judging.Judged.TheVariants.{Accept}
+use Rattle.invocation.specs.Laws.{Fits}
 use Rattle.run_record.specs.StateOf.{state_of}
-use Rattle.run_record.proofs.Serving.{not_late, not_asked, not_valid, is_served, letters_there}
+use Rattle.run_record.proofs.Judged.{letters_there}
+use Rattle.run_record.proofs.Applied.{batch_unasked, batch_registers, batch_flaw, batch_done}
 use Rattle.run_record.proofs.applying.apply_batch.Goals as goal
 
-pub returns-then-reply-seen-clause-allowed : goal.returns-then-reply-seen-clause-allowed
-returns-then-reply-seen-clause-allowed c = ap is_some (not_late c.args.routes.now c.args.reply.now (state_of c.args.machine.now) (omega (arith, c.seen.ensures)))
+pub serve-requires-clause-picked : goal.serve-requires-clause-picked
+serve-requires-clause-picked c =
+    letters_there c.args.routes.now (state_of c.args.machine.now) c.args.reply.now (Accept c.in-Accept.effects)
+    (sym (ap Some c.in-Accept.is) ∙ sym c.in-Some.is ∙ c.in_ok-judged.ensures.judged)
 
-pub returns-then-reply-seen-clause-state : goal.returns-then-reply-seen-clause-state
-returns-then-reply-seen-clause-state c = ap (λ (o : Option State). unwrap_or o (state_of c.args.machine.now)) (not_late c.args.routes.now c.args.reply.now (state_of c.args.machine.now) (omega (arith, c.seen.ensures)))
+pub serve-requires-clause-fits : goal.serve-requires-clause-fits
+serve-requires-clause-fits c =
+    let cells = ((state_of c.args.machine.now).own (Function c.args.reply.now.address)).cells in
+    subst (Fits cells) c.in-Accept.is (subst (λ (o : Option Judged). IfSome o (Fits cells)) c.in-Some.is c.in_ok-judged.ensures.fits)
 
 pub returns-in_default-clause-allowed : goal.returns-in_default-clause-allowed
-returns-in_default-clause-allowed c = ap is_some (not_asked c.args.routes.now c.args.reply.now (state_of c.args.machine.now) (sym c.in_default.is ∙ c.in_ok-_request.ensures))
+returns-in_default-clause-allowed c found =
+    (batch_unasked c.args.routes.now found (state_of c.args.machine.now) c.args.reply.now (sym c.in_default.is ∙ c.in_ok-judged.ensures.judged)).0
 
 pub returns-in_default-clause-state : goal.returns-in_default-clause-state
-returns-in_default-clause-state c = ap (λ (o : Option State). unwrap_or o (state_of c.args.machine.now)) (not_asked c.args.routes.now c.args.reply.now (state_of c.args.machine.now) (sym c.in_default.is ∙ c.in_ok-_request.ensures))
+returns-in_default-clause-state c found =
+    (batch_unasked c.args.routes.now found (state_of c.args.machine.now) c.args.reply.now (sym c.in_default.is ∙ c.in_ok-judged.ensures.judged)).1
 
-pub returns-in_default-2-clause-allowed : goal.returns-in_default-2-clause-allowed
-returns-in_default-2-clause-allowed c = ap is_some (not_valid c.args.routes.now c.args.reply.now (state_of c.args.machine.now) c.in_default-2.field-0 ((λ i. verdict (sym c.module.ensures.value i).egresses (sym c.as_slice.ensures i)) ∙ sym c.in_ok-response.ensures.verdict ∙ c.in_default-2.is))
+pub returns-in_ok-serve-in-Accept-clause-allowed : goal.returns-in_ok-serve-in-Accept-clause-allowed
+returns-in_ok-serve-in-Accept-clause-allowed c found =
+    (batch_done c.args.routes.now found (state_of c.args.machine.now) c.args.reply.now (state_of c.serve.new.machine) c.in-Accept.effects
+    (sym (ap Some c.in-Accept.is) ∙ sym c.in-Some.is ∙ c.in_ok-judged.ensures.judged) c.in_ok-serve-in-Accept.ensures.ok).0
 
-pub returns-in_default-2-clause-state : goal.returns-in_default-2-clause-state
-returns-in_default-2-clause-state c = ap (λ (o : Option State). unwrap_or o (state_of c.args.machine.now)) (not_valid c.args.routes.now c.args.reply.now (state_of c.args.machine.now) c.in_default-2.field-0 ((λ i. verdict (sym c.module.ensures.value i).egresses (sym c.as_slice.ensures i)) ∙ sym c.in_ok-response.ensures.verdict ∙ c.in_default-2.is))
+pub returns-in_ok-serve-in-Accept-clause-state : goal.returns-in_ok-serve-in-Accept-clause-state
+returns-in_ok-serve-in-Accept-clause-state c found =
+    (batch_done c.args.routes.now found (state_of c.args.machine.now) c.args.reply.now (state_of c.serve.new.machine) c.in-Accept.effects
+    (sym (ap Some c.in-Accept.is) ∙ sym c.in-Some.is ∙ c.in_ok-judged.ensures.judged) c.in_ok-serve-in-Accept.ensures.ok).1
 
-pub serve-requires : goal.serve-requires
-serve-requires c = letters_there c.args.routes.now c.args.reply.now (state_of c.args.machine.now) c.in-Some._request (sym c.in_ok-_request.ensures ∙ c.in-Some.is)
+pub returns-in-Register-clause-allowed : goal.returns-in-Register-clause-allowed
+returns-in-Register-clause-allowed c found =
+    (batch_registers c.args.routes.now found (state_of c.args.machine.now) c.args.reply.now c.in-Register._specs
+    (sym (ap Some c.in-Register.is) ∙ sym c.in-Some.is ∙ c.in_ok-judged.ensures.judged)).0
 
-pub returns-clause-allowed : goal.returns-clause-allowed
-returns-clause-allowed c = ap is_some (is_served c.args.routes.now c.args.reply.now (state_of c.args.machine.now) c.in-Some._request c.in-Accept.response (omega (arith, c.seen.ensures)) (sym c.in_ok-_request.ensures ∙ c.in-Some.is) ((λ i. verdict (sym c.module.ensures.value i).egresses (sym c.as_slice.ensures i)) ∙ sym c.in_ok-response.ensures.verdict ∙ c.in-Accept.is))
+pub returns-in-Register-clause-state : goal.returns-in-Register-clause-state
+returns-in-Register-clause-state c found =
+    (batch_registers c.args.routes.now found (state_of c.args.machine.now) c.args.reply.now c.in-Register._specs
+    (sym (ap Some c.in-Register.is) ∙ sym c.in-Some.is ∙ c.in_ok-judged.ensures.judged)).1
 
-pub returns-clause-state : goal.returns-clause-state
-returns-clause-state c = c.in_ok-serve.ensures.ok ∙ ap (λ (o : Option State). unwrap_or o (state_of c.args.machine.now)) (is_served c.args.routes.now c.args.reply.now (state_of c.args.machine.now) c.in-Some._request c.in-Accept.response (omega (arith, c.seen.ensures)) (sym c.in_ok-_request.ensures ∙ c.in-Some.is) ((λ i. verdict (sym c.module.ensures.value i).egresses (sym c.as_slice.ensures i)) ∙ sym c.in_ok-response.ensures.verdict ∙ c.in-Accept.is))
+pub returns-in-Flaw-clause-allowed : goal.returns-in-Flaw-clause-allowed
+returns-in-Flaw-clause-allowed c found =
+    (batch_flaw c.args.routes.now found (state_of c.args.machine.now) c.args.reply.now c.in-Flaw._flaw
+    (sym (ap Some c.in-Flaw.is) ∙ sym c.in-Some.is ∙ c.in_ok-judged.ensures.judged)).0
+
+pub returns-in-Flaw-clause-state : goal.returns-in-Flaw-clause-state
+returns-in-Flaw-clause-state c found =
+    (batch_flaw c.args.routes.now found (state_of c.args.machine.now) c.args.reply.now c.in-Flaw._flaw
+    (sym (ap Some c.in-Flaw.is) ∙ sym c.in-Some.is ∙ c.in_ok-judged.ensures.judged)).1

@@ -1,5 +1,5 @@
 use Rattle.std.proofs.Common.{◌≡◌, drop, nat_lt}
-use Rattle.run_record.specs.Routing.{splits_in}
+use Rattle.address_routing.specs.Routing.{splits_in}
 use Rattle.run_record.proofs.applying.has_split.Given as goal
 
 abbrev pub invariant-loop-ingress : goal.invariant-loop-ingress

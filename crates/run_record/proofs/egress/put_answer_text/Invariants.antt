@@ -1,5 +1,6 @@
 use Rattle.std.proofs.Common.{◌≡◌, ◌++◌, take, map}
-use Rattle.run_record.specs.Egress.{egress_text, egress_record}
+use Rattle.run_record.specs.Egress.{egress_text}
+use Rattle.invocation.specs.Effects.{egress_record}
 use Rattle.run_record.proofs.egress.put_answer_text.Given as goal
 
 -- the lines so far are added

@@ -3,4 +3,4 @@ use Rattle.run_record.proofs.LawsOfMail.{delivered-is}
 use Rattle.run_record.proofs.laws.letters_are_delivered_in_order.Goals as goal
 
 pub returns : goal.returns
-returns c = λ m lists last entries h sender target. delivered-is m lists first_state last entries h sender target
+returns c m lists last entries h sender target = delivered-is m lists first_state last entries h sender target

@@ -1,7 +1,8 @@
 use Rattle.std.proofs.Common.{ℕ, List, refl, subst}
 use Rattle.std.specs.Prelude.{Ok, Err}
 use Rattle.sf_outside.specs.declared.fault.Fault.TheVariants.{Failed, OutOfMemory}
-use Rattle.statefun_cli.specs.Decode.{Tells, decode_end, decode_text}
+use Rattle.statefun_cli.specs.Decode.{decode_end, decode_text}
+use Rattle.statefun_cli.specs.Outside.{Tells}
 use Rattle.statefun_cli.proofs.decode.decode_input.Goals as goal
 
 pub returns-in-Ok-clause-decoded : goal.returns-in-Ok-clause-decoded

@@ -2,7 +2,6 @@ use Rattle.std.proofs.Common.{Global, map, rules, ◌≡◌, ◌∙◌, ℕ, ap,
 use Rattle.std.proofs.lemmas.Result.{IfOk-weaker}
 use Rattle.std.specs.String.{string_bytes}
 use Rattle.clap.specs.Words.{App, Accepts, HasKind, HasMatchesOf, app_of, fault_of, found_of, is_simple_and_free, one_text, rule_of, with_rule}
-use Rattle.clap.specs.Simple.{app_of_fields}
 use Rattle.clap.specs.declared.builder.value_parser.ValueParser.TheVariants.{Names}
 use Rattle.clap.proofs.CallerReads.{one_required_read}
 use Rattle.statefun_cli.specs.DecodeWords.{AreKinds, decode_app, kind_rule}

@@ -1,5 +1,5 @@
 use Rattle.std.proofs.Common.{subst}
-use Rattle.run_record.specs.declared.module.Module.{Module}
+use Rattle.address_routing.specs.declared.module.Module.{Module}
 use Rattle.statefun_cli.specs.declared.turn.TheConstants.{PATIENCE}
 use Rattle.statefun_cli.specs.Running.{IsRun}
 use Rattle.statefun_cli.specs.Plain.{IsPlainRun, counts_of}

@@ -1,0 +1,4 @@
+pub mod Rules
+pub mod Keys
+pub mod Apart
+pub mod Laws

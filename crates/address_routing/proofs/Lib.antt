@@ -1,0 +1,5 @@
+mod Templates
+mod Naming
+mod Hashes
+mod JobWords
+mod JobLines

@@ -1,0 +1,12 @@
+pub mod Fronts
+pub mod Heads
+pub mod Lengths
+pub mod Tellings
+pub mod Filling
+pub mod Telling
+pub mod Chunking
+pub mod Heading
+pub mod Requesting
+pub mod LineEnding
+pub mod Stating
+pub mod Writing

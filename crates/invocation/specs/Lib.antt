@@ -1,0 +1,4 @@
+pub mod Requests
+pub mod Effects
+pub mod Judging
+pub mod Laws

@@ -1,0 +1,9 @@
+mod Targets
+mod Numbers
+mod Counting
+mod Serving
+mod Reading
+mod Telling
+mod Onward
+mod Whole
+mod Routable

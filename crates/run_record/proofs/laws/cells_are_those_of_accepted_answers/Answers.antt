@@ -1,0 +1,9 @@
+use Rattle.typed_values.specs.declared.letter.Sender.TheVariants.{Function}
+use Rattle.run_record.specs.Machine.{first_state}
+use Rattle.run_record.specs.Histories.{cell_calls}
+use Rattle.run_record.proofs.LawsOfOwn.{cells_made}
+use Rattle.run_record.proofs.laws.cells_are_those_of_accepted_answers.Goals as goal
+
+pub returns : goal.returns
+unfolding cell_calls
+returns c m lists last entries h address = cells_made m lists (Function address) first_state last entries h
