@@ -1,4 +1,4 @@
-"""Times the works of `bench` (messages, cells, mail, delays), and those of messages by libprotobuf. Called by bench/run.
+"""Times the works of `bench` (messages, cells, mail, delays, a replay, judging), and those of messages by libprotobuf. Called by bench/run.
 
 Its words: the program `bench`, the number of runs of which the best counts, and the peer program, if there is one."""
 import os
@@ -8,12 +8,14 @@ import tempfile
 from timed import timed
 
 MOST_RATIO = 11
-# Each work with the smaller number of its letters, messages, writes or delays, and the rounds of that number. Ten times the number has
+# Each work with the smaller number of its letters, messages, writes, delays or entries, and the rounds of that number. Ten times the number has
 # a tenth of the rounds, so that both runs take about as long, and each round's time is known as well.
-WORKS = [("letters", 10000, 20), ("request", 1000, 200), ("answer", 1000, 200), ("cells", 10000, 100), ("mail", 100000, 10), ("mailboxes", 100000, 10), ("delays", 1000, 50)]
+WORKS = [("letters", 10000, 20), ("request", 1000, 200), ("answer", 1000, 200), ("cells", 10000, 100), ("mail", 100000, 10), ("mailboxes", 100000, 10), ("delays", 1000, 50), ("replay", 100000, 10)]
+# An answer of 4 MiB is judged in the time of its decoding and half of it more, at most.
+JUDGED, MOST_JUDGED = ("egresses", "judged", 60000, 20), 1.5
 PEER_WORKS = {"request", "answer"}
 # Those whose time grows with their number alone. Delays are not among them: a cancellation looks at each that waits.
-BOUND_WORKS = {"letters", "cells", "mail", "mailboxes"}
+BOUND_WORKS = {"letters", "cells", "mail", "mailboxes", "replay"}
 
 
 def line_of(path):
@@ -65,6 +67,10 @@ def main():
             few = compared(timed_ones, work, count, rounds, runs, path)
             many = compared(timed_ones, work, 10 * count, rounds // 10, runs, path)
             ratios(work, few, many)
+        decoding, judging, count, rounds = JUDGED
+        decoded = compared(programs[:1], decoding, count, rounds, runs, path)[0]
+        judged = compared(programs[:1], judging, count, rounds, runs, path)[0]
+        print(f"{judging}: {judged / decoded:.2f} of the time of decoding (at most {MOST_JUDGED} is wanted)", flush=True)
 
 
 main()

@@ -32,7 +32,7 @@ impl Failure {
     pub(crate) fn text(self) -> &'static str {
         match self {
             Failure::Words => {
-                "the words are: letters|request|answer|cells|mail|mailboxes|delays|module NUMBER ROUNDS"
+                "the words are: letters|request|answer|cells|mail|mailboxes|delays|replay|egresses|judged|module NUMBER ROUNDS"
             }
             Failure::Fault => "a message was not decoded, or the module file is refused",
             Failure::OutOfMemory => "out of memory",

@@ -1,15 +1,19 @@
 //! The program `bench`: decodes and encodes messages again and again, writes cells, puts, cancels and sends delays, puts and takes
-//! letters, or reads the module file on standard input. `bench/run` times it.
+//! letters, replays a record of the machine, or reads the module file on standard input. `bench/run` times it.
 #![tactic(auto)]
 
 mod answers;
+mod egresses;
 mod failure;
+mod job;
 mod letters;
 mod modules;
 mod parts;
 mod posts;
+mod records;
 mod requests;
 mod state;
+mod steps;
 mod tally;
 mod waiting;
 mod words;
@@ -58,5 +62,8 @@ fn done(rt: &HostRuntime, work: Work, count: u32, rounds: u32) -> Result<Tally, 
         Work::Mail => posts::work(alloc, 97, count, rounds),
         Work::Mailboxes => posts::work(alloc, 10_000, count, rounds),
         Work::Delays => waiting::work(alloc, count, rounds),
+        Work::Replay => records::work(alloc, count, rounds),
+        Work::Egresses => egresses::decode(alloc, count, rounds),
+        Work::Judged => egresses::judge_all(alloc, count, rounds),
     }
 }

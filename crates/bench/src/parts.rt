@@ -22,16 +22,22 @@ fn kind(alloc: Global, name: &str) -> Mem<TypeName> {
     })
 }
 
-fn id(alloc: Global, number: u32) -> Mem<Text> {
+/// The id of a number.
+pub(crate) fn id(alloc: Global, number: u32) -> Mem<Text> {
     let id = format!(in alloc; "key-{number}")?;
     Text::copy_of(alloc, id.as_str())
 }
 
 /// A value with the payload.
 pub(crate) fn value(alloc: Global) -> Mem<TypedValue> {
+    text_value(alloc, PAYLOAD)
+}
+
+/// A value with a text.
+pub(crate) fn text_value(alloc: Global, text: &str) -> Mem<TypedValue> {
     Ok(TypedValue {
         typename: Text::copy_of(alloc, "io.statefun.types/string")?,
         has_value: true,
-        value: Bytes::copy_of(alloc, PAYLOAD.as_bytes())?,
+        value: Bytes::copy_of(alloc, text.as_bytes())?,
     })
 }

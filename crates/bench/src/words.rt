@@ -21,6 +21,12 @@ pub(crate) enum Work {
     Mailboxes,
     /// Delays that are put, cancelled and sent.
     Delays,
+    /// A record of the machine that is replayed.
+    Replay,
+    /// An answer with egress messages, decoded.
+    Egresses,
+    /// The same answer, judged.
+    Judged,
 }
 
 impl Work {
@@ -35,6 +41,9 @@ impl Work {
             Work::Mail => "mail",
             Work::Mailboxes => "mailboxes",
             Work::Delays => "delays",
+            Work::Replay => "replay",
+            Work::Egresses => "egresses",
+            Work::Judged => "judged",
         }
     }
 }
@@ -43,7 +52,7 @@ impl Work {
 #[derive(Clone, Copy, Debug, PartialEq, Eq)]
 pub(crate) struct Task {
     pub(crate) work: Work,
-    /// How many letters, messages, writes, delays or documents there are.
+    /// How many letters, messages, writes, delays, entries or documents there are.
     pub(crate) count: u32,
     /// How often all of them are gone through.
     pub(crate) rounds: u32,
@@ -76,6 +85,9 @@ fn work_of(word: &str) -> Result<Work, Failure> {
         "mail" => Ok(Work::Mail),
         "mailboxes" => Ok(Work::Mailboxes),
         "delays" => Ok(Work::Delays),
+        "replay" => Ok(Work::Replay),
+        "egresses" => Ok(Work::Egresses),
+        "judged" => Ok(Work::Judged),
         _ => Err(Failure::Words),
     }
 }
