@@ -7,8 +7,10 @@ mod help;
 mod missing;
 
 use proto_wire::{Bytes, Mem, Text};
-use sf_outside::{FixedLink, FolderIngress, ReaderSource, WriterSink};
+use sf_clock::SystemClock;
+use sf_outside::{FixedLink, FolderIngress, ReaderSource, Source, WriterSink};
 use statefun_cli::{PlainEnd, statefun_decode, statefun_run};
+use std::fs;
 use std::process::ExitCode;
 
 /// What the link answers to each call: an egress record for `com.example/greetings` with the string `a`.
@@ -47,12 +49,29 @@ fn command(rt: &HostRuntime, words: &[String]) -> Mem<u8> {
     }
 }
 
+/// Runs the job of the module file that the words name, over the logs of the working folder.
 fn run(rt: &HostRuntime, words: &[String]) -> Mem<u8> {
+    match fs::open(rt, check::text_at(words, 1)) {
+        Ok(file) => run_over(rt, words, &mut ReaderSource::new(file)),
+        Err(_) => run_over(rt, words, &mut check::unreadable(rt.alloc())?),
+    }
+}
+
+fn run_over<Y: Source>(rt: &HostRuntime, words: &[String], module: &mut Y) -> Mem<u8> {
     let alloc = rt.alloc();
     let mut ingress = FolderIngress::new(alloc, rt, Text::copy_of(alloc, ".")?);
     let mut link = FixedLink::new(alloc, Bytes::copy_of(alloc, ANSWER)?);
+    let mut clock = SystemClock::new(rt);
     let mut out = WriterSink::new(rt.stdout());
-    let made = statefun_run(alloc, words, &mut ingress, &mut link, &mut out);
+    let made = statefun_run(
+        alloc,
+        words,
+        module,
+        &mut ingress,
+        &mut link,
+        &mut clock,
+        &mut out,
+    );
     Ok(made.end.status())
 }
 

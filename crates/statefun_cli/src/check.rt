@@ -161,12 +161,18 @@ fn refused_line(alloc: Global, document: u32, line: u32, kind: ModuleKind) -> Me
     ensures { IfOk result (λ text. text ≡ refused_line (document, record { line = line; kind = kind })) }
 {
     let mut text = Bytes::new(alloc);
-    text.append(b"module refused document ")?;
-    put_decimal(&mut text, u64::from(document))?;
-    text.append(b" line ")?;
-    put_decimal(&mut text, u64::from(line))?;
-    text.append(b" kind ")?;
-    text.append(kind.name().as_bytes())?;
-    text.push(b'\n')?;
+    put_refused(&mut text, document, line, kind)?;
     Ok(text)
+}
+
+/// Adds the line of a refusal.
+pub(crate) fn put_refused(into: &mut Bytes, document: u32, line: u32, kind: ModuleKind) -> Mem<()> {
+    into.append(b"module refused document ")?;
+    put_decimal(into, u64::from(document))?;
+    into.append(b" line ")?;
+    put_decimal(into, u64::from(line))?;
+    into.append(b" kind ")?;
+    into.append(kind.name().as_bytes())?;
+    into.push(b'\n')?;
+    Ok(())
 }

@@ -5,6 +5,7 @@ ghost use Rattle.typed_values.specs.Escape.{StartsAs, address_text};
 ghost use Rattle.statefun_cli.specs.Ends.{status_of, flaw_name, reason_text, reasons_text, end_line};
 
 use crate::PlainEnd;
+use crate::check::put_refused;
 use message_text::put_decimal;
 use proto_wire::{Bytes, Mem};
 use request_reply::{FlawKind, Reason};
@@ -18,9 +19,12 @@ impl PlainEnd {
         match self {
             PlainEnd::Done { .. } => 0,
             PlainEnd::Usage { .. } => 2,
+            PlainEnd::ModuleFault => 3,
+            PlainEnd::ModuleRefused { .. } => 4,
             PlainEnd::TurnsSpent { .. } => 5,
             PlainEnd::EndpointFailed { .. } => 6,
-            PlainEnd::NotServed { .. } => 6,
+            PlainEnd::BatchTooLarge { .. } => 7,
+            PlainEnd::RecordTooLarge { .. } => 8,
             PlainEnd::IngressFault => 9,
             PlainEnd::SinkFault => 11,
             PlainEnd::LinkFault => 12,
@@ -47,7 +51,34 @@ impl PlainEnd {
                 address,
                 reasons.as_slice(),
             ),
-            PlainEnd::NotServed { address } => put_not_served(into, address),
+            PlainEnd::ModuleFault => into.append(b"module fault\n"),
+            PlainEnd::ModuleRefused {
+                document,
+                line,
+                kind,
+            } => { put_refused(into, *document, *line, *kind) }
+            PlainEnd::BatchTooLarge {
+                address,
+                size,
+                limit,
+            } => {
+                into.append(b"batch too large ")?;
+                put_address_text(into, address)?;
+                into.push(b' ')?;
+                put_decimal(into, *size)?;
+                put_count(into, b" ", *limit)
+            }
+            PlainEnd::RecordTooLarge {
+                split,
+                offset,
+                size,
+            } => {
+                into.append(b"record too large split ")?;
+                put_decimal(into, u64::from(*split))?;
+                into.append(b" offset ")?;
+                put_decimal(into, *offset)?;
+                put_count(into, b" size ", *size)
+            }
             PlainEnd::IngressFault => into.append(b"ingress fault\n"),
             PlainEnd::LinkFault => into.append(b"link fault\n"),
             PlainEnd::SinkFault => Ok(()),

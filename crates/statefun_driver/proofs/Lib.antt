@@ -1,0 +1,6 @@
+mod Leading
+mod Phases
+mod Fronts
+mod Rows
+mod Calls
+mod Recorded

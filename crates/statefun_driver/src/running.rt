@@ -1,0 +1,40 @@
+//! A run.
+ghost use Rattle.std.specs.Prelude.{◌≡◌, ◌≤◌};
+ghost use Rattle.statefun_driver.specs.Runs.{AreModest, IsRun};
+
+use crate::job::Job;
+use crate::progress::Progress;
+use crate::{Broken, End, Outside};
+use address_routing::Routes;
+use proto_wire::List;
+use run_record::Entry;
+use std::alloc::Global;
+
+/// What a run comes to.
+#[derive(Drop)]
+pub struct Ran {
+    pub end: End,
+    /// The record of its steps.
+    pub entries: List<Entry>,
+}
+
+/// Makes the turns of a job from its beginning, and no more than so many. No endpoint has more than 100 attempts.
+pub fn run<O: Outside>(alloc: Global, routes: Routes, turns: u64, outside: &mut O) -> Ran
+    requires attempts { AreModest routes.endpoints }
+    requires turns { turns ≤ 1000000000 }
+    ensures ran { IsRun (record { routes = routes; turns = turns }) (O.seen outside.old) (O.seen outside.new) result.entries result.end }
+    ensures objects { (O.seen outside.new).objects ≡ (O.seen outside.old).objects }
+{
+    let job = Job::new(routes, turns);
+    let Ok(mut progress) = Progress::new(alloc, &job) else {
+        return Ran {
+            end: End::Broke(Broken::Memory),
+            entries: List::new(alloc),
+        };
+    };
+    let end = progress.make_turns(alloc, &job, outside);
+    Ran {
+        end,
+        entries: progress.entries,
+    }
+}
