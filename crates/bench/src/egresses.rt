@@ -1,15 +1,16 @@
 //! An answer with many egress messages, decoded, or judged by a job of 256 endpoints and 256 egresses.
 use crate::failure::Failure;
-use crate::parts::{address, text_value};
+use crate::parts::text_value;
 use crate::tally::Tally;
 use address_routing::Routes;
-use invocation::{Judged, judge};
+use invocation::Job;
 use module_yaml::{ModuleFault, read_module};
 use proto_wire::{Bytes, List, Mem, Text};
-use request_reply::{EgressMessage, FromFunction, InvocationResponse, decode_from, encode_from};
+use request_reply::{
+    EgressMessage, FromFunction, InvocationResponse, Judgement, decode_from, encode_from, judge,
+};
 use state_cells::Cells;
 use std::alloc::{AllocError, Global};
-use typed_values::Address;
 
 /// How many endpoints and egresses the job has.
 const NAMES: u32 = 256;
@@ -33,10 +34,13 @@ pub(crate) fn judge_all(alloc: Global, count: u32, rounds: u32) -> Result<Tally,
     let spelled = answer(alloc, count)?;
     let routes = routes(alloc)?;
     let cells = Cells::new(alloc)?;
-    let sender = address(alloc, "f0", 0)?;
+    let job = Job {
+        routes: &routes,
+        cells: &cells,
+    };
     let mut same = true;
     for _ in 0..rounds {
-        let whole = is_accepted(alloc, spelled.as_slice(), &cells, &routes, &sender, count)?;
+        let whole = is_accepted(alloc, spelled.as_slice(), &job, count)?;
         same = same && whole;
     }
     Ok(Tally {
@@ -53,19 +57,12 @@ fn is_decoded(alloc: Global, bytes: &[u8], count: u32) -> Result<bool, Failure> 
     }
 }
 
-/// Whether the bytes are accepted, with so many egress records.
-fn is_accepted(
-    alloc: Global,
-    bytes: &[u8],
-    cells: &Cells,
-    routes: &Routes,
-    sender: &Address,
-    count: u32,
-) -> Mem<bool> {
-    match judge(alloc, bytes, cells, routes, sender, 0)? {
-        Judged::Accept(effects) => Ok(effects.egress.len() == count as usize),
-        Judged::Register(_specs) => Ok(false),
-        Judged::Flaw(_flaw) => Ok(false),
+/// Whether the bytes are accepted, with so many egress messages.
+fn is_accepted(alloc: Global, bytes: &[u8], job: &Job, count: u32) -> Mem<bool> {
+    match judge(alloc, bytes, job)? {
+        Judgement::Accept(response) => Ok(response.outgoing_egresses.len() == count as usize),
+        Judgement::Register(_specs) => Ok(false),
+        Judgement::Flaw(_flaw) => Ok(false),
     }
 }
 

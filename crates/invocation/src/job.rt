@@ -8,11 +8,11 @@ use request_reply::Known;
 use state_cells::Cells;
 use typed_values::TypeName;
 
-/// The routes of a job and the cells of an address.
+/// The routes of a job and the cells of an address: what `request_reply::judge` looks at.
 #[derive(Drop)]
-pub(crate) struct Job<'a> {
-    pub(crate) routes: &'a Routes,
-    pub(crate) cells: &'a Cells,
+pub struct Job<'a> {
+    pub routes: &'a Routes,
+    pub cells: &'a Cells,
 }
 
 impl<'a> Known for Job<'a> {

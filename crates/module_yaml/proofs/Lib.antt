@@ -7,3 +7,4 @@ mod Telling
 mod Onward
 mod Whole
 mod Routable
+mod Bounded

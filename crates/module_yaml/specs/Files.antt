@@ -1,12 +1,13 @@
 -- What a module file means: the module of its documents, or the first refusal.
-use Rattle.std.specs.Prelude.{◌≡◌, ℕ, ◌+◌, nat_lt, nat_le, Bool, true, if◌then◌else◌, List, [], ◌∷◌, ◌++◌, length, slice_get, codes, Option, Some, None, is_some, unwrap_or, Result, Ok, Err}
+use Rattle.std.specs.Prelude.{◌≡◌, ℕ, ◌+◌, ◌≤◌, nat_lt, nat_le, Bool, true, if◌then◌else◌, List, [], ◌∷◌, ◌++◌, length, slice_get, codes, Option, Some, None, is_some, unwrap_or, Result, Ok, Err}
 use Rattle.std.specs.Option.{option_map_or}
-use Rattle.std.specs.List.{list_any}
+use Rattle.std.specs.List.{AllByRecursion, list_any}
 use Rattle.proto_wire.specs.declared.module_kind.ModuleKind.TheVariants.{DuplicateId, NoEndpoint, NoIngress, TooMany}
 use Rattle.typed_values.specs.declared.name.TypeName.{TypeName}
 use Rattle.typed_values.specs.Pattern.{same_pattern}
 use Rattle.typed_values.specs.Sameness.{same_name}
 use Rattle.address_routing.specs.declared.module.Module.{Module}
+use Rattle.address_routing.specs.declared.module.Endpoint.{Endpoint}
 use Rattle.address_routing.specs.Routing.{endpoint_of, splits_in}
 use Rattle.yaml_block.specs.declared.node.Node.{Node, out-Node}
 use Rattle.yaml_block.specs.declared.node.Pair.{Pair, out-Pair}
@@ -159,3 +160,12 @@ IsToldBy (fault.Refused document line kind) meaning = meaning ≡ Err (document,
 abbrev pub IsToldOf : Option Refused → ModuleFault → Type 0
 IsToldOf refusal fault.OutOfMemory = Unit {0}
 IsToldOf refusal (fault.Refused document line kind) = refusal ≡ Some (document, record { line = line; kind = kind })
+
+-- ---- bounds
+
+-- no endpoint has more attempts or bytes than a module file may give it
+abbrev pub IsBounded : Endpoint → Type 0
+IsBounded endpoint = (endpoint.attempts ≤ 100) × (endpoint.max_bytes ≤ 8388608)
+
+abbrev pub AreBounded : List Endpoint → Type 0
+AreBounded endpoints = AllByRecursion IsBounded endpoints

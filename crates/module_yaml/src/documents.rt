@@ -15,7 +15,7 @@ ghost use Rattle.module_yaml.specs.Nodes.{text_of};
 ghost use Rattle.module_yaml.specs.Mappings.{◌orElse◌, bad_value, mapping_refusal, pairs_under, stands, wrong_keys};
 ghost use Rattle.module_yaml.specs.Values.{target_of};
 ghost use Rattle.module_yaml.specs.Keys.{document_keys, kind_in, spec_keys};
-ghost use Rattle.module_yaml.specs.Files.{document_refusal, duplicate, first_refused, first_target, first_unserved, in_document, is_item_served, kind_at, line_under, module_in, module_of, no_module, part_at, refusal_of, spec_at, spec_pairs, target_items, target_past, too_many, unserved, with_documents, with_part, IsToldBy, IsToldOf};
+ghost use Rattle.module_yaml.specs.Files.{AreBounded, document_refusal, duplicate, first_refused, first_target, first_unserved, in_document, is_item_served, kind_at, line_under, module_in, module_of, no_module, part_at, refusal_of, spec_at, spec_pairs, target_items, target_past, too_many, unserved, with_documents, with_part, IsToldBy, IsToldOf};
 ghost use Rattle.module_yaml.specs.Told.{IsTold};
 
 use crate::fault::{Fault, ModuleFault, refused};
@@ -37,6 +37,7 @@ use yaml_block::{Node, Pair, YamlFault, read_documents};
 pub fn read_module(alloc: Global, bytes: &[u8]) -> Result<Module, ModuleFault>
     ensures ok { IfOk result (λ job. module_in bytes.now ≡ Ok job) }
     ensures routable { IfOk result (λ job. IsTrue (is_routable job)) }
+    ensures bounded { IfOk result (λ job. AreBounded job.endpoints) }
     ensures refused { IfErr result (λ fault. IsToldBy fault (module_in bytes.now)) }
 {
     match read_documents(alloc, bytes) {

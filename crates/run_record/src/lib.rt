@@ -30,4 +30,5 @@ pub use laws::{
 pub use letters::{caller_of, letters_of};
 pub use machine::Machine;
 pub use merging::merge;
+pub use part::{change_cells, change_delays, register_all};
 pub use replaying::{ReplayFault, Replayed, replay};

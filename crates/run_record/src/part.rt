@@ -107,7 +107,7 @@ impl Part {
 }
 
 /// Makes changes of cells that take them, in order.
-fn change_cells(cells: &mut Cells, moment: u64, changes: List<Change>)
+pub fn change_cells(cells: &mut Cells, moment: u64, changes: List<Change>)
     requires { TakesAll cells.old changes }
     ensures { cells.new ≡ cells_after (map (cell_call moment) changes) cells.old }
 {
@@ -132,7 +132,7 @@ fn change_cell(cells: &mut Cells, moment: u64, change: Change)
 }
 
 /// Puts and cancels delays of an address, in order. There is room for them.
-fn change_delays(delays: &mut Delays, address: &Address, changes: List<DelayChange>)
+pub fn change_delays(delays: &mut Delays, address: &Address, changes: List<DelayChange>)
     requires { length changes ≤ delays.old.spare }
     ensures { delays.new.delays ≡ delays_after (map (delay_call address.now) changes) delays.old.delays }
 {
@@ -156,7 +156,7 @@ fn change_delay(delays: &mut Delays, address: &Address, change: DelayChange)
 }
 
 /// Registers new cells in order. An `Err` leaves the cells as they were.
-fn register_all(cells: &mut Cells, specs: List<CellSpec>) -> Mem<()>
+pub fn register_all(cells: &mut Cells, specs: List<CellSpec>) -> Mem<()>
     requires { AreNew cells.old specs }
     ensures ok { OnOk result (cells.new ≡ cells_after (map Registers specs) cells.old) }
     ensures err { OnErr result (cells.new ≡ cells.old) }

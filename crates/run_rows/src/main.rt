@@ -6,12 +6,12 @@ mod comparing;
 mod detail;
 mod ends;
 mod making;
+mod module_file;
 mod records;
 mod replays;
 mod row;
 mod script;
 mod showing;
-mod words;
 
 use row_text::{Failure, Rows, show_rows};
 use showing::shown;

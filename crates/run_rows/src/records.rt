@@ -7,20 +7,19 @@ use std::alloc::Global;
 /// What each of many records holds: the string `a`.
 const VALUE: &[u8; 3] = b"\x0a\x01a";
 
-/// The splits of a field: split 0, with the records `KEY=HEX`, or `many:N` for N records with the keys `k0`, `k1` and so on.
+/// The splits of a field, with `;` between them: the records `KEY=HEX` of each, or `many:N` for N records with the keys `k0`,
+/// `k1` and so on.
 pub(crate) fn splits_of(alloc: Global, field: &str) -> Result<List<List<IngressRecord>>, Failure> {
     let mut splits = List::new(alloc);
-    splits.push(records_of(alloc, field)?)?;
+    for records in field.split(';') {
+        splits.push(records_of(alloc, records)?)?;
+    }
     Ok(splits)
 }
 
-/// The records of a field.
-pub(crate) fn records_of(alloc: Global, field: &str) -> Result<List<IngressRecord>, Failure> {
+fn records_of(alloc: Global, field: &str) -> Result<List<IngressRecord>, Failure> {
     let mut records = List::new(alloc);
-    if field.is_empty() {
-        return Ok(records);
-    }
-    for word in field.split(' ') {
+    for word in field.split_whitespace() {
         match word.strip_prefix("many:") {
             Some(number) => put_many(alloc, &mut records, number)?,
             None => records.push(record_of(alloc, word)?)?,

@@ -1,34 +1,35 @@
 //! The replay of a run's record.
-use crate::comparing::{Held, held_of};
-use crate::records::{records_of, splits_of};
+use crate::comparing::kept_of;
+use crate::module_file::file_of;
+use crate::records::splits_of;
 use crate::row::Row;
-use crate::words::words_of;
 use address_routing::Routes;
+use module_yaml::{ModuleFault, read_module};
 use proto_wire::List;
 use row_text::Failure;
-use run_record::{Entry, Machine, Replayed, replay};
+use run_record::{Entry, Replayed, replay};
 use sf_outside::MemoryIngress;
-use statefun_cli::{Plan, WordsFault, read_words};
 use std::alloc::Global;
 
+/// What a replayed machine holds.
+#[derive(Clone, Copy)]
+pub(crate) struct Held {
+    /// How many records of splits 0 and 1 were taken.
+    pub(crate) taken: [u64; 2],
+    /// How many egress records it keeps.
+    pub(crate) kept: usize,
+}
+
 /// What came of a replay.
-#[derive(Drop)]
+#[derive(Clone, Copy)]
 pub(crate) enum Again {
-    /// The words are wrong, so that there is no job.
+    /// There is no job.
     NoJob,
     /// The replay was given up.
     GivenUp,
-    /// Each entry was allowed, and this is what the machine holds then.
+    /// Each entry was allowed.
     State(Held),
     /// The first entry that is not allowed.
-    NotAllowed(u64),
-}
-
-/// How a machine came out of a replay.
-#[derive(Drop)]
-enum Ran {
-    GivenUp,
-    State(Machine),
     NotAllowed(u64),
 }
 
@@ -37,42 +38,12 @@ pub(crate) fn replay_row(
     alloc: Global,
     row: &Row,
     entries: &List<Entry>,
-    written: &str,
 ) -> Result<Again, Failure> {
-    let words = words_of(alloc, row.words)?;
-    match routes_of(alloc, words.as_slice())? {
-        None => Ok(Again::NoJob),
-        Some(routes) => replay_job(alloc, row.replayed(), entries, &routes, written),
-    }
-}
-
-/// The routes of the job that the words ask for.
-fn routes_of(alloc: Global, words: &[String]) -> Result<Option<Routes>, Failure> {
-    match read_words(alloc, words) {
-        Ok(Plan { module, .. }) => Ok(Some(Routes::new(alloc, module)?)),
-        Err(WordsFault::Usage(_)) => Ok(None),
-        Err(WordsFault::OutOfMemory) => Err(Failure::OutOfMemory),
-    }
-}
-
-/// Replays entries over the records of a field.
-fn replay_job(
-    alloc: Global,
-    field: &str,
-    entries: &List<Entry>,
-    routes: &Routes,
-    written: &str,
-) -> Result<Again, Failure> {
-    let ingress = MemoryIngress::steady(alloc, splits_of(alloc, field)?)?;
-    match replayed(alloc, entries, routes, ingress) {
-        Ran::GivenUp => Ok(Again::GivenUp),
-        Ran::NotAllowed(place) => Ok(Again::NotAllowed(place)),
-        Ran::State(machine) => {
-            let records = records_of(alloc, field)?;
-            let job = routes.module();
-            Ok(Again::State(held_of(alloc, &machine, job, records.as_slice(), written)?))
-        }
-    }
+    let Some(routes) = routes_of(alloc, row.file)? else {
+        return Ok(Again::NoJob);
+    };
+    let ingress = MemoryIngress::steady(alloc, splits_of(alloc, row.replayed())?)?;
+    Ok(replayed(alloc, entries, &routes, ingress))
 }
 
 /// The one call of the replay.
@@ -81,10 +52,23 @@ fn replayed(
     entries: &List<Entry>,
     routes: &Routes,
     mut ingress: MemoryIngress,
-) -> Ran {
+) -> Again {
     match replay(alloc, entries, routes, &mut ingress) {
-        Ok(Replayed::State(machine)) => Ran::State(machine),
-        Ok(Replayed::NotAllowed(place)) => Ran::NotAllowed(place),
-        Err(_) => Ran::GivenUp,
+        Ok(Replayed::State(machine)) => Again::State(Held {
+            taken: [machine.taken(0), machine.taken(1)],
+            kept: kept_of(&machine, routes.module(), entries.as_slice()),
+        }),
+        Ok(Replayed::NotAllowed(place)) => Again::NotAllowed(place),
+        Err(_) => Again::GivenUp,
+    }
+}
+
+/// The routes of a row's module, if its file is one.
+fn routes_of(alloc: Global, field: &str) -> Result<Option<Routes>, Failure> {
+    let bytes = file_of(alloc, field)?;
+    match read_module(alloc, bytes.as_slice()) {
+        Ok(job) => Ok(Some(Routes::new(alloc, job)?)),
+        Err(ModuleFault::Refused { .. }) => Ok(None),
+        Err(ModuleFault::OutOfMemory) => Err(Failure::OutOfMemory),
     }
 }

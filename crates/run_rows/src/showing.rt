@@ -1,9 +1,8 @@
 //! What is printed of a row.
-use crate::comparing::Held;
-use crate::detail::{put_batches, put_starts};
+use crate::detail::{put_starts, put_steps, put_sum};
 use crate::ends::end_of;
 use crate::making::{Made, make};
-use crate::replays::{Again, replay_row};
+use crate::replays::{Again, Held, replay_row};
 use crate::row::{Row, row_of};
 use proto_wire::Bytes;
 use row_text::{Failure, put_written};
@@ -42,16 +41,24 @@ fn run_shown(alloc: Global, line: &str) -> Result<String, Failure> {
 }
 
 fn put_run(alloc: Global, text: &mut String, row: &Row, made: &Made) -> Result<(), Failure> {
-    let written = str::from_utf8(made.out.bytes().as_slice())?;
-    let replay = replay_row(alloc, row, &made.entries, written)?;
-    put_written(text, written)?;
+    let replay = replay_row(alloc, row, &made.entries)?;
+    put_written(text, str::from_utf8(made.out.bytes().as_slice())?)?;
     put_status(alloc, text, made.status)?;
     put_entries(alloc, text, made.entries.as_slice())?;
     put_calls(alloc, text, made.link.journal().as_slice())?;
-    put_replay(alloc, text, &replay, written)?;
-    if row.detail == "full" {
-        put_starts(alloc, text, made.link.journal().as_slice())?;
-        put_batches(alloc, text, made.entries.as_slice())?;
+    put_replay(alloc, text, replay)?;
+    put_detail(alloc, text, row.detail, made)
+}
+
+/// Adds requests and steps, or a checksum of them.
+fn put_detail(alloc: Global, text: &mut String, detail: &str, made: &Made) -> Result<(), Failure> {
+    let mut lines = String::new(alloc);
+    put_starts(alloc, &mut lines, made.link.journal().as_slice())?;
+    put_steps(alloc, &mut lines, made.entries.as_slice())?;
+    match detail {
+        "full" => text.push_str(lines.as_str())?,
+        "sum" => put_sum(alloc, text, lines.as_str())?,
+        _ => {}
     }
     Ok(())
 }
@@ -122,17 +129,12 @@ fn polls_in(journal: &[LinkEvent]) -> usize {
 }
 
 /// Adds what came of the replay, which ends the line.
-fn put_replay(
-    alloc: Global,
-    text: &mut String,
-    replay: &Again,
-    written: &str,
-) -> Result<(), Failure> {
+fn put_replay(alloc: Global, text: &mut String, replay: Again) -> Result<(), Failure> {
     match replay {
         Again::NoJob => text.push_str("; no job\n")?,
         Again::GivenUp => text.push_str("; replay given up\n")?,
-        Again::NotAllowed(place) => put_place(alloc, text, *place)?,
-        Again::State(held) => put_held(alloc, text, held, written)?,
+        Again::NotAllowed(place) => put_place(alloc, text, place)?,
+        Again::State(held) => put_held(alloc, text, held)?,
     }
     Ok(())
 }
@@ -142,16 +144,11 @@ fn put_place(alloc: Global, text: &mut String, place: u64) -> Result<(), Failure
     Ok(())
 }
 
-fn put_held(alloc: Global, text: &mut String, held: &Held, written: &str) -> Result<(), Failure> {
-    let taken = held.taken;
-    let waiting = held.waiting;
-    text.push_str(format!(in alloc; "; replays, taken {taken}, waiting {waiting}")?.as_str())?;
-    if written.is_empty() {
-        text.push_str(", nothing written\n")?;
-    } else if held.same {
-        text.push_str(", egress as written\n")?;
-    } else {
-        text.push_str(", egress not as written\n")?;
-    }
+fn put_held(alloc: Global, text: &mut String, held: Held) -> Result<(), Failure> {
+    let [first, second] = held.taken;
+    let kept = held.kept;
+    text.push_str(format!(in alloc;
+        "; replays, taken {first} {second}, egress {kept}\n"
+    )?.as_str())?;
     Ok(())
 }

@@ -18,10 +18,7 @@ pub(crate) fn check(rt: &HostRuntime, words: &[String]) -> Mem<u8> {
     let mut out = WriterSink::new(rt.stdout());
     let path = path_in(words);
     let Ok(file) = fs::open(rt, path) else {
-        // A file that cannot be opened is one whose reads fail.
-        let mut calls = List::new(rt.alloc());
-        calls.push(0)?;
-        let mut file = MemorySource::new(rt.alloc(), Bytes::new(rt.alloc()), calls)?;
+        let mut file = unreadable(rt.alloc())?;
         let status = statefun_check(rt.alloc(), words, &mut file, &mut out);
         show_end(rt, path, status);
         return Ok(status);
@@ -30,6 +27,13 @@ pub(crate) fn check(rt: &HostRuntime, words: &[String]) -> Mem<u8> {
     let status = statefun_check(rt.alloc(), words, &mut file, &mut out);
     show_end(rt, path, status);
     Ok(status)
+}
+
+/// A file that cannot be opened is one whose reads fail.
+pub(crate) fn unreadable(alloc: Global) -> Mem<MemorySource> {
+    let mut calls = List::new(alloc);
+    calls.push(0)?;
+    MemorySource::new(alloc, Bytes::new(alloc), calls)
 }
 
 /// Writes to standard error why a module file was not taken.
@@ -50,7 +54,7 @@ fn path_in(words: &[String]) -> &str {
 }
 
 /// The word at a place, or an empty text.
-fn text_at(words: &[String], place: usize) -> &str {
+pub(crate) fn text_at(words: &[String], place: usize) -> &str {
     match words.get(place) {
         Some(word) => word.as_str(),
         None => "",

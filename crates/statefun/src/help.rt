@@ -3,11 +3,8 @@
 /// The commands, in one screen.
 const COMMANDS: &str = "The commands of statefun:
 
-  statefun run TYPE URL VALUETYPE EGRESS --turns N
-      Runs the function type TYPE (namespace/name) over the log split-0.log of this folder.
-      URL        where its functions are called, http://..; {function.name} stands for the name
-      VALUETYPE  the typename of the letters' arguments, as io.statefun.types/string
-      EGRESS     the one egress that answers may name (namespace/name)
+  statefun run MODULE --turns N
+      Runs the job of the module file MODULE over the logs split-0.log, split-1.log .. of this folder.
       N          the most turns, 1 to 1000000000
 
   statefun decode to|from
@@ -16,6 +13,9 @@ const COMMANDS: &str = "The commands of statefun:
 
   statefun check MODULE
       Prints what the module file MODULE is made of, or its first fault.
+
+  statefun serve PORT
+      Serves the functions com.example/greeter and com.example/total on 127.0.0.1.
 
 The line `usage word I` names the first wrong word, counted from 0; where it is the number
 of words, one is missing.

@@ -3,3 +3,11 @@ use Rattle.std.proofs.Common.{◌≡◌, ℕ, List, ◌++◌, append_assoc}
 
 pub four-parts : (old one two three four a b c d : List ℕ) → one ≡ old ++ a → two ≡ one ++ b → three ≡ two ++ c → four ≡ three ++ d → four ≡ old ++ (a ++ (b ++ (c ++ d)))
 four-parts old one two three four a b c d e f g h = rw (h, g, f, e) (simp append_assoc)
+
+pub five-parts : (old one two three four five a b c d e : List ℕ) → one ≡ old ++ a → two ≡ one ++ b → three ≡ two ++ c → four ≡ three ++ d → five ≡ four ++ e
+    → five ≡ old ++ (a ++ (b ++ (c ++ (d ++ e))))
+five-parts old one two three four five a b c d e f g h k l = rw (l, k, h, g, f) (simp append_assoc)
+
+pub seven-parts : (old one two three four five six seven a b c d e f g : List ℕ) → one ≡ old ++ a → two ≡ one ++ b → three ≡ two ++ c → four ≡ three ++ d
+    → five ≡ four ++ e → six ≡ five ++ f → seven ≡ six ++ g → seven ≡ old ++ (a ++ (b ++ (c ++ (d ++ (e ++ (f ++ g))))))
+seven-parts old one two three four five six seven a b c d e f g h k l m n o p = rw (p, o, n, m, l, k, h) (simp append_assoc)

@@ -6,12 +6,9 @@ use Rattle.std.proofs.lemmas.Bool.{cases_lt}
 use Rattle.typed_values.specs.Sameness.{same_bytes}
 use Rattle.std.specs.Result.{IfErr}
 use Rattle.std.proofs.lemmas.Option.{slice_get_within}
-use Rattle.typed_values.specs.declared.name.TypeName.{TypeName}
-use Rattle.typed_values.specs.Names.{name_in}
-use Rattle.statefun_cli.specs.declared.words.Plan.{Plan}
-use Rattle.statefun_cli.specs.declared.words.WordsFault.{WordsFault}
-use Rattle.statefun_cli.specs.declared.words.WordsFault.TheVariants.{Usage, OutOfMemory}
-use Rattle.statefun_cli.specs.Words.{command_in, url_in, value_type_in, turns_in, joined_turns_in, read_at, ◌>>=◌, ended_at, ending_at, is_at, turns_of, plain_module, plan_of, IsWrongFrom, Reads}
+use Rattle.statefun_cli.specs.declared.end.WordsFault.{WordsFault}
+use Rattle.statefun_cli.specs.declared.run_words.RunWords.{RunWords}
+use Rattle.statefun_cli.specs.RunWords.{command_in, file_in, turns_in, joined_turns_in, read_at, ◌>>=◌, ended_at, ending_at, is_at, turns_of, turns_asked, AsksFor, IsFirstWrong}
 
 abbrev Words : Type 0
 Words = List (List ℕ)
@@ -135,50 +132,33 @@ ending x k = record {
   mends = λ ws j e. let p = ended_place x k j (slice_get ws k) e in ([], λ vs a g. serves-ending x k vs (subst (λ n. GoesOn n [] vs) (sym p) g));
 }
 
--- ---- a value made of what is read
-
-mapped : {A B : Type 0} (f : A → B) (k : ℕ) (r : Words → Result A ℕ) → ReadsFrom k r → ReadsFrom k (λ ws. r ws >>= λ x. Ok (f x))
-mapped {A} {B} f k r h = record {
-  low = λ ws j e. h.low ws j (unmapped (r ws) j e);
-  within = λ ws j e. h.within ws j (unmapped (r ws) j e);
-  stays = λ ws vs j e a. bind_err (r vs) (λ x. Ok (f x)) j (h.stays ws vs j (unmapped (r ws) j e) a);
-  mends = λ ws j e. let m = h.mends ws j (unmapped (r ws) j e) in (m.0, λ vs a g. let good = m.1 vs a g in (f good.0, bind_ok (r vs) (λ x. Ok (f x)) good.0 good.1));
-}
-  where
-    unmapped : (o : Result A ℕ) (j : ℕ) → (o >>= λ x. Ok (f x)) ≡ Err j → o ≡ Err j
-    unmapped (Ok x) j e = absurd cc
-    unmapped (Err k) j e = ap Err (err_same {A = B} k j e)
-
-serves-mapped : {A B : Type 0} (f : A → B) (k : ℕ) (rest : Words) (r : Words → Result A ℕ) → Serves k rest r → Serves k rest (λ vs. r vs >>= λ x. Ok (f x))
-serves-mapped f k rest r h vs g = let good = h vs g in (f good.0, bind_ok (r vs) (λ x. Ok (f x)) good.0 good.1)
-
 -- ---- the turns
 
 abbrev option : List ℕ
 option = codes "--turns"
 
 abbrev apart : Words → Result ℕ ℕ
-apart ws = read_at turns_in ws 6 >>= λ x. ending_at ws 7 x
+apart ws = read_at turns_in ws 3 >>= λ x. ending_at ws 4 x
 
 abbrev joined : Words → Result ℕ ℕ
-joined ws = read_at joined_turns_in ws 5 >>= λ x. ending_at ws 6 x
+joined ws = read_at joined_turns_in ws 2 >>= λ x. ending_at ws 3 x
 
-apart-reads : ReadsFrom 6 apart
+apart-reads : ReadsFrom 3 apart
 unfolding turns_in
-apart-reads = stage turns_in 6 (λ x ws. ending_at ws 7 x) (codes "1" ∷ []) (λ x. ending x 7) (serves-stage turns_in 6 (λ x ws. ending_at ws 7 x) (codes "1") 1 [] refl (serves-ending 1 7))
+apart-reads = stage turns_in 3 (λ x ws. ending_at ws 4 x) (codes "1" ∷ []) (λ x. ending x 4) (serves-stage turns_in 3 (λ x ws. ending_at ws 4 x) (codes "1") 1 [] refl (serves-ending 1 4))
 
-joined-serves : Serves 5 (codes "--turns=1" ∷ []) joined
+joined-serves : Serves 2 (codes "--turns=1" ∷ []) joined
 unfolding turns_in
-joined-serves = serves-stage joined_turns_in 5 (λ x ws. ending_at ws 6 x) (codes "--turns=1") 1 [] refl (serves-ending 1 6)
+joined-serves = serves-stage joined_turns_in 2 (λ x ws. ending_at ws 3 x) (codes "--turns=1") 1 [] refl (serves-ending 1 3)
 
-joined-reads : ReadsFrom 5 joined
-joined-reads = stage joined_turns_in 5 (λ x ws. ending_at ws 6 x) (codes "--turns=1" ∷ []) (λ x. ending x 6) joined-serves
+joined-reads : ReadsFrom 2 joined
+joined-reads = stage joined_turns_in 2 (λ x ws. ending_at ws 3 x) (codes "--turns=1" ∷ []) (λ x. ending x 3) joined-serves
 
-turns-apart : (ws : Words) → is_at ws 5 option ≡ true → turns_of ws ≡ apart ws
+turns-apart : (ws : Words) → is_at ws 2 option ≡ true → turns_of ws ≡ apart ws
 unfolding turns_of
 turns-apart ws e = rw e refl
 
-turns-joined : (ws : Words) → is_at ws 5 option ≡ false → turns_of ws ≡ joined ws
+turns-joined : (ws : Words) → is_at ws 2 option ≡ false → turns_of ws ≡ joined ws
 unfolding turns_of
 turns-joined ws e = rw e refl
 
@@ -196,118 +176,66 @@ at_there ws k w e = from_word (slice_get ws k) refl e
 at_same : (ws vs : Words) (k : ℕ) (w : List ℕ) → slice_get vs k ≡ slice_get ws k → is_at vs k w ≡ is_at ws k w
 at_same ws vs k w e = rw e refl
 
-turns-serves : Serves 5 (codes "--turns=1" ∷ []) turns_of
+turns-serves : Serves 2 (codes "--turns=1" ∷ []) turns_of
 turns-serves vs g =
     let here = g 0 in
-    let other : is_at vs 5 option ≡ false = rw here refl in
+    let other : is_at vs 2 option ≡ false = rw here refl in
     let good = joined-serves vs g in
     (good.0, turns-joined vs other ∙ good.1)
 
-turns-reads : ReadsFrom 5 turns_of
+turns-reads : ReadsFrom 2 turns_of
 turns-reads = record {
-  low = λ ws j e. elim (split (is_at ws 5 option)) [
+  low = λ ws j e. elim (split (is_at ws 2 option)) [
     | inl t ↦ let l = apart-reads.low ws j (sym (turns-apart ws t) ∙ e) in omega arith
     | inr f ↦ joined-reads.low ws j (sym (turns-joined ws f) ∙ e)
   ];
-  within = λ ws j e l. elim (split (is_at ws 5 option)) [
-    | inl t ↦ let m = at_there ws 5 option t in apart-reads.within ws j (sym (turns-apart ws t) ∙ e) (omega arith)
+  within = λ ws j e l. elim (split (is_at ws 2 option)) [
+    | inl t ↦ let m = at_there ws 2 option t in apart-reads.within ws j (sym (turns-apart ws t) ∙ e) (omega arith)
     | inr f ↦ joined-reads.within ws j (sym (turns-joined ws f) ∙ e) l
   ];
-  stays = λ ws vs j e a. elim (split (is_at ws 5 option)) [
-    | inl t ↦ let l = apart-reads.low ws j (sym (turns-apart ws t) ∙ e) in turns-apart vs (at_same ws vs 5 option (a 5 (omega arith)) ∙ t) ∙ apart-reads.stays ws vs j (sym (turns-apart ws t) ∙ e) a
-    | inr f ↦ let l = joined-reads.low ws j (sym (turns-joined ws f) ∙ e) in turns-joined vs (at_same ws vs 5 option (a 5 (omega arith)) ∙ f) ∙ joined-reads.stays ws vs j (sym (turns-joined ws f) ∙ e) a
+  stays = λ ws vs j e a. elim (split (is_at ws 2 option)) [
+    | inl t ↦ let l = apart-reads.low ws j (sym (turns-apart ws t) ∙ e) in turns-apart vs (at_same ws vs 2 option (a 2 (omega arith)) ∙ t) ∙ apart-reads.stays ws vs j (sym (turns-apart ws t) ∙ e) a
+    | inr f ↦ let l = joined-reads.low ws j (sym (turns-joined ws f) ∙ e) in turns-joined vs (at_same ws vs 2 option (a 2 (omega arith)) ∙ f) ∙ joined-reads.stays ws vs j (sym (turns-joined ws f) ∙ e) a
   ];
-  mends = λ ws j e. elim (split (is_at ws 5 option)) [
-    | inl t ↦ let l = apart-reads.low ws j (sym (turns-apart ws t) ∙ e) in let m = apart-reads.mends ws j (sym (turns-apart ws t) ∙ e) in (m.0, λ vs a g. let good = m.1 vs a g in (good.0, turns-apart vs (at_same ws vs 5 option (a 5 (omega arith)) ∙ t) ∙ good.1))
-    | inr f ↦ let l = joined-reads.low ws j (sym (turns-joined ws f) ∙ e) in elim (cases_lt 5 j) [
-      | inl m ↦ let n = joined-reads.mends ws j (sym (turns-joined ws f) ∙ e) in (n.0, λ vs a g. let good = n.1 vs a g in (good.0, turns-joined vs (at_same ws vs 5 option (a 5 (omega arith)) ∙ f) ∙ good.1))
-      | inr m ↦ let p : j ≡ 5 = omega arith in (codes "--turns=1" ∷ [], λ vs a g. turns-serves vs (subst (λ n. GoesOn n (codes "--turns=1" ∷ []) vs) p g))
+  mends = λ ws j e. elim (split (is_at ws 2 option)) [
+    | inl t ↦ let l = apart-reads.low ws j (sym (turns-apart ws t) ∙ e) in let m = apart-reads.mends ws j (sym (turns-apart ws t) ∙ e) in (m.0, λ vs a g. let good = m.1 vs a g in (good.0, turns-apart vs (at_same ws vs 2 option (a 2 (omega arith)) ∙ t) ∙ good.1))
+    | inr f ↦ let l = joined-reads.low ws j (sym (turns-joined ws f) ∙ e) in elim (cases_lt 2 j) [
+      | inl m ↦ let n = joined-reads.mends ws j (sym (turns-joined ws f) ∙ e) in (n.0, λ vs a g. let good = n.1 vs a g in (good.0, turns-joined vs (at_same ws vs 2 option (a 2 (omega arith)) ∙ f) ∙ good.1))
+      | inr m ↦ let p : j ≡ 2 = omega arith in (codes "--turns=1" ∷ [], λ vs a g. turns-serves vs (subst (λ n. GoesOn n (codes "--turns=1" ∷ []) vs) p g))
     ]
   ];
 }
 
--- ---- the plan
+-- ---- the words
 
-sample : TypeName
-sample = record { namespace = codes "a"; name = codes "b" }
-
-abbrev from5 : TypeName → List ℕ → List ℕ → TypeName → Words → Result Plan ℕ
-from5 kind url value_type egress ws = turns_of ws >>= λ turns. Ok (record { «module» = plain_module kind url value_type egress; turns = turns })
-
-abbrev from4 : TypeName → List ℕ → List ℕ → Words → Result Plan ℕ
-from4 kind url value_type ws = read_at name_in ws 4 >>= λ egress. from5 kind url value_type egress ws
-
-abbrev from3 : TypeName → List ℕ → Words → Result Plan ℕ
-from3 kind url ws = read_at value_type_in ws 3 >>= λ value_type. from4 kind url value_type ws
-
-abbrev from2 : TypeName → Words → Result Plan ℕ
-from2 kind ws = read_at url_in ws 2 >>= λ url. from3 kind url ws
-
-abbrev from1 : List ℕ → Words → Result Plan ℕ
-from1 command ws = read_at name_in ws 1 >>= λ kind. from2 kind ws
-
-abbrev rest5 : Words
-rest5 = codes "--turns=1" ∷ []
-
-abbrev rest4 : Words
-rest4 = codes "a/b" ∷ rest5
-
-abbrev rest3 : Words
-rest3 = codes "t" ∷ rest4
+abbrev from1 : List ℕ → Words → Result ℕ ℕ
+from1 command ws = read_at file_in ws 1 >>= λ file. turns_of ws
 
 abbrev rest2 : Words
-rest2 = codes "http://" ∷ rest3
+rest2 = codes "--turns=1" ∷ []
 
 abbrev rest1 : Words
-rest1 = codes "a/b" ∷ rest2
-
-name-sample : name_in (codes "a/b") ≡ Some sample
-unfolding name_in sample
-name-sample = refl
-
-serves5 : (kind : TypeName) (url value_type : List ℕ) (egress : TypeName) → Serves 5 rest5 (from5 kind url value_type egress)
-serves5 kind url value_type egress = serves-mapped (λ turns. record { «module» = plain_module kind url value_type egress; turns = turns }) 5 rest5 turns_of turns-serves
-
-serves4 : (kind : TypeName) (url value_type : List ℕ) → Serves 4 rest4 (from4 kind url value_type)
-serves4 kind url value_type = serves-stage name_in 4 (from5 kind url value_type) (codes "a/b") sample rest5 name-sample (serves5 kind url value_type sample)
-
-serves3 : (kind : TypeName) (url : List ℕ) → Serves 3 rest3 (from3 kind url)
-serves3 kind url = serves-stage value_type_in 3 (from4 kind url) (codes "t") (codes "t") rest4 refl (serves4 kind url (codes "t"))
-
-serves2 : (kind : TypeName) → Serves 2 rest2 (from2 kind)
-serves2 kind = serves-stage url_in 2 (from3 kind) (codes "http://") (codes "http://") rest3 refl (serves3 kind (codes "http://"))
+rest1 = codes "m" ∷ rest2
 
 serves1 : (command : List ℕ) → Serves 1 rest1 (from1 command)
-serves1 command = serves-stage name_in 1 from2 (codes "a/b") sample rest2 name-sample (serves2 sample)
-
-reads5 : (kind : TypeName) (url value_type : List ℕ) (egress : TypeName) → ReadsFrom 5 (from5 kind url value_type egress)
-reads5 kind url value_type egress = mapped (λ turns. record { «module» = plain_module kind url value_type egress; turns = turns }) 5 turns_of turns-reads
-
-reads4 : (kind : TypeName) (url value_type : List ℕ) → ReadsFrom 4 (from4 kind url value_type)
-reads4 kind url value_type = stage name_in 4 (from5 kind url value_type) rest4 (reads5 kind url value_type) (serves4 kind url value_type)
-
-reads3 : (kind : TypeName) (url : List ℕ) → ReadsFrom 3 (from3 kind url)
-reads3 kind url = stage value_type_in 3 (from4 kind url) rest3 (reads4 kind url) (serves3 kind url)
-
-reads2 : (kind : TypeName) → ReadsFrom 2 (from2 kind)
-reads2 kind = stage url_in 2 (from3 kind) rest2 (reads3 kind) (serves2 kind)
+serves1 command = serves-stage file_in 1 (λ file ws. turns_of ws) (codes "m") (codes "m") rest2 refl turns-serves
 
 reads1 : (command : List ℕ) → ReadsFrom 1 (from1 command)
-reads1 command = stage name_in 1 from2 rest1 reads2 (serves1 command)
+reads1 command = stage file_in 1 (λ file ws. turns_of ws) rest1 (λ file. turns-reads) (serves1 command)
 
-plan-reads : ReadsFrom 0 plan_of
-unfolding plan_of
-plan-reads = stage command_in 0 from1 (codes "run" ∷ rest1) reads1 (serves-stage command_in 0 from1 (codes "run") (codes "run") rest1 refl (serves1 (codes "run")))
+asked-reads : ReadsFrom 0 turns_asked
+unfolding turns_asked
+asked-reads = stage command_in 0 from1 (codes "run" ∷ rest1) reads1 (serves-stage command_in 0 from1 (codes "run") (codes "run") rest1 refl (serves1 (codes "run")))
 
-pub first-wrong : (words : Words) (answer : Result Plan WordsFault) → Reads (plan_of words) answer → IfErr answer (λ fault. IsWrongFrom words fault)
-first-wrong words (Ok plan) h = tt
-first-wrong words (Err OutOfMemory) h = tt
-first-wrong words (Err (Usage j)) h =
-    let fits = plan-reads.within words j h (omega arith) in
-    let m = plan-reads.mends words j h in
+pub first-wrong : (words : Words) (answer : Result RunWords WordsFault) → AsksFor (turns_asked words) answer → IfErr answer (λ fault. IsFirstWrong words fault.word)
+first-wrong words (Ok asked) h = tt
+first-wrong words (Err fault) h =
+    let j = fault.word in
+    let fits = asked-reads.within words j h (omega arith) in
+    let m = asked-reads.mends words j h in
     let good = m.1 (take j words ++ m.0) (λ i l. get-front j words m.0 i l fits) (λ i. get-back j words m.0 i fits) in
     record {
       within = fits;
       before = (m.0, good.0, good.1);
-      here = λ l b. let e = plan-reads.stays words (take (j + 1) words ++ b.0) j h (λ i k. get-front (j + 1) words b.0 i k (omega arith)) in let f = b.2 in cc;
+      here = λ l b. let e = asked-reads.stays words (take (j + 1) words ++ b.0) j h (λ i k. get-front (j + 1) words b.0 i k (omega arith)) in let f = b.2 in cc;
     }

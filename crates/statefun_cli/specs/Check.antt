@@ -22,6 +22,10 @@ abbrev pub refused_line : Refused → List ℕ
 refused_line (document, refusal) =
     codes "module refused document " ++ (decimal document ++ (codes " line " ++ (decimal refusal.line ++ (codes " kind " ++ (module_kind_name refusal.kind ++ 10 ∷ [])))))
 
+-- a read of the module file failed
+abbrev pub module_fault_line : List ℕ
+module_fault_line = codes "module fault" ++ 10 ∷ []
+
 abbrev pub text_by : Result Module Refused → List ℕ
 text_by (Ok m) = job_text m
 text_by (Err refused) = refused_line refused
@@ -63,7 +67,7 @@ reader = record {
   limit = 1048576;
   text = check_text;
   ending = check_end;
-  fault_text = codes "module fault" ++ 10 ∷ [];
+  fault_text = module_fault_line;
   fault_ending = ModuleFault;
 }
 

@@ -1,7 +1,8 @@
 //! The command `statefun check`: what a module file is made of.
-ghost use Rattle.std.specs.Prelude.{◌≡◌, ◌≢◌, [], ◌∷◌, ◌++◌, List, Some, ℕ, map, IfOk};
+ghost use Rattle.std.specs.Prelude.{◌≡◌, ◌≢◌, [], ◌∷◌, ◌++◌, List, Some, ℕ, map, IfOk, OnOk, OnErr};
 ghost use Rattle.std.specs.String.{string_bytes};
 ghost use Rattle.sf_outside.specs.Told.{HasCause, Rose};
+ghost use Rattle.typed_values.specs.Escape.{StartsAs};
 ghost use Rattle.statefun_cli.specs.CheckWords.{IsWrong};
 ghost use Rattle.statefun_cli.specs.Outside.{Tells, outside};
 ghost use Rattle.statefun_cli.specs.Decode.{AsksForHelp};
@@ -161,12 +162,21 @@ fn refused_line(alloc: Global, document: u32, line: u32, kind: ModuleKind) -> Me
     ensures { IfOk result (λ text. text ≡ refused_line (document, record { line = line; kind = kind })) }
 {
     let mut text = Bytes::new(alloc);
-    text.append(b"module refused document ")?;
-    put_decimal(&mut text, u64::from(document))?;
-    text.append(b" line ")?;
-    put_decimal(&mut text, u64::from(line))?;
-    text.append(b" kind ")?;
-    text.append(kind.name().as_bytes())?;
-    text.push(b'\n')?;
+    put_refused(&mut text, document, line, kind)?;
     Ok(text)
+}
+
+/// Adds the line of a refusal. An `Err` leaves what stood there with a part of the line behind it.
+pub(crate) fn put_refused(into: &mut Bytes, document: u32, line: u32, kind: ModuleKind) -> Mem<()>
+    ensures ok { OnOk result (into.new ≡ into.old ++ refused_line (document, record { line = line; kind = kind })) }
+    ensures err { OnErr result (StartsAs into.old into.new) }
+{
+    into.append(b"module refused document ")?;
+    put_decimal(into, u64::from(document))?;
+    into.append(b" line ")?;
+    put_decimal(into, u64::from(line))?;
+    into.append(b" kind ")?;
+    into.append(kind.name().as_bytes())?;
+    into.push(b'\n')?;
+    Ok(())
 }

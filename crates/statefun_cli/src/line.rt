@@ -2,9 +2,10 @@
 ghost use Rattle.std.specs.Prelude.{◌≡◌, [], ◌∷◌, ◌++◌, codes, OnOk, OnErr};
 ghost use Rattle.std.specs.Fmt.{decimal};
 ghost use Rattle.typed_values.specs.Escape.{StartsAs, address_text};
-ghost use Rattle.statefun_cli.specs.Ends.{status_of, flaw_name, reason_text, reasons_text, end_line};
+ghost use Rattle.statefun_cli.specs.Ends.{batch_line, end_line, flaw_name, reason_text, reasons_text, record_line, status_of};
 
 use crate::PlainEnd;
+use crate::check::put_refused;
 use message_text::put_decimal;
 use proto_wire::{Bytes, Mem};
 use request_reply::{FlawKind, Reason};
@@ -18,9 +19,12 @@ impl PlainEnd {
         match self {
             PlainEnd::Done { .. } => 0,
             PlainEnd::Usage { .. } => 2,
+            PlainEnd::ModuleFault => 3,
+            PlainEnd::ModuleRefused { .. } => 4,
             PlainEnd::TurnsSpent { .. } => 5,
             PlainEnd::EndpointFailed { .. } => 6,
-            PlainEnd::NotServed { .. } => 6,
+            PlainEnd::BatchTooLarge { .. } => 7,
+            PlainEnd::RecordTooLarge { .. } => 8,
             PlainEnd::IngressFault => 9,
             PlainEnd::SinkFault => 11,
             PlainEnd::LinkFault => 12,
@@ -47,7 +51,22 @@ impl PlainEnd {
                 address,
                 reasons.as_slice(),
             ),
-            PlainEnd::NotServed { address } => put_not_served(into, address),
+            PlainEnd::ModuleFault => into.append(b"module fault\n"),
+            PlainEnd::ModuleRefused {
+                document,
+                line,
+                kind,
+            } => { put_refused(into, *document, *line, *kind) }
+            PlainEnd::BatchTooLarge {
+                address,
+                size,
+                limit,
+            } => put_batch_too_large(into, address, *size, *limit),
+            PlainEnd::RecordTooLarge {
+                split,
+                offset,
+                size,
+            } => put_record_too_large(into, *split, *offset, *size),
             PlainEnd::IngressFault => into.append(b"ingress fault\n"),
             PlainEnd::LinkFault => into.append(b"link fault\n"),
             PlainEnd::SinkFault => Ok(()),
@@ -78,14 +97,35 @@ fn put_failed(into: &mut Bytes, address: &Address, reasons: &[Reason]) -> Mem<()
     Ok(())
 }
 
-fn put_not_served(into: &mut Bytes, address: &Address) -> Mem<()>
-    ensures ok { OnOk result (into.new ≡ into.old ++ (codes "not served " ++ (address_text address.now ++ 10 ∷ []))) }
+fn put_batch_too_large(into: &mut Bytes, address: &Address, size: u64, limit: u64) -> Mem<()>
+    ensures ok { OnOk result (into.new ≡ into.old ++ batch_line address.now size limit) }
     ensures err { OnErr result (StartsAs into.old into.new) }
 {
-    into.append(b"not served ")?;
+    into.append(b"batch too large ")?;
     put_address_text(into, address)?;
-    into.push(b'\n')?;
+    into.push(b' ')?;
+    put_decimal(into, size)?;
+    put_count(into, b" ", limit)?;
     Ok(())
+}
+
+fn put_record_too_large(into: &mut Bytes, split: u32, offset: u64, size: u64) -> Mem<()>
+    ensures ok { OnOk result (into.new ≡ into.old ++ record_line split offset size) }
+    ensures err { OnErr result (StartsAs into.old into.new) }
+{
+    into.append(b"record too large split ")?;
+    put_decimal(into, u64::from(split))?;
+    put_count_on(into, b" offset ", offset)?;
+    put_count(into, b" size ", size)
+}
+
+/// Adds words and a number.
+fn put_count_on(into: &mut Bytes, words: &[u8], number: u64) -> Mem<()>
+    ensures ok { OnOk result (into.new ≡ into.old ++ (words.now ++ decimal number)) }
+    ensures err { OnErr result (StartsAs into.old into.new) }
+{
+    into.append(words)?;
+    put_decimal(into, number)
 }
 
 fn put_reasons(into: &mut Bytes, reasons: &[Reason]) -> Mem<()>

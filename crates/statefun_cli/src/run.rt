@@ -1,156 +1,219 @@
-//! The plain run: `statefun run` without a folder.
-ghost use Rattle.std.specs.Prelude.{◌≡◌, ◌≤◌, ℕ, [], Ok, Err, IfOk, IfErr, IfSome, map, Some, IsTrue};
+//! The run of a module without a folder.
+ghost use Rattle.std.specs.Prelude.{◌≡◌, ◌≤◌, [], List, Ok, map, OnOk, OnErr, IsTrue};
 ghost use Rattle.std.specs.String.{string_bytes};
-ghost use Rattle.sf_outside.specs.Told.{Rose};
-ghost use Rattle.sf_outside.specs.Answers.{Extends};
-ghost use Rattle.address_routing.specs.Routing.{splits_in, is_routable};
-ghost use Rattle.statefun_cli.specs.Words.{plan_of, IsPlain};
-ghost use Rattle.statefun_cli.specs.Plain.{IsFaultCause, IsCompleteRun, IfFresh, IsBackedRun, IsReplayed, IsTold, IsSinkCauseOf, IsPlainRun, IsUsage, counts_of};
-ghost use Rattle.statefun_cli.specs.Running.{IsNoSinkFault};
+ghost use Rattle.sf_outside.specs.Told.{HasCause};
+ghost use Rattle.address_routing.specs.Routing.{is_routable};
+ghost use Rattle.module_yaml.specs.Files.{AreBounded, module_in};
+ghost use Rattle.statefun_driver.specs.Seen.{Objects};
+ghost use Rattle.statefun_cli.specs.RunWords.{turns_asked};
+ghost use Rattle.statefun_cli.specs.Running.{IsCommandRun, IsModuleRun, IsNoSinkFault, IsPart, IsRunOf, IsSinkCauseOf, IsTold, IsTurnsRun, around, file, run_text, seen_of};
 
-use crate::drive::drive;
-use crate::progress::Progress;
-use crate::turn::PATIENCE;
-use crate::{PlainEnd, PlainRun, Plan, WordsFault, read_words, write_whole};
-use address_routing::Routes;
+use crate::egress_out::write_egress;
+use crate::input::read_up_to;
+use crate::output::write_whole;
+use crate::{PlainEnd, PlainRun, read_run_words};
+use address_routing::{Module, Routes};
+use module_yaml::{ModuleFault, read_module};
 use proto_wire::{Bytes, List};
-use sf_outside::{Fault, Ingress, Link, Sink};
+use run_record::Entry;
+use sf_clock::Clock;
+use sf_outside::{Fault, Ingress, Link, Sink, Source};
+use statefun_driver::{Ran, World, run};
 use std::alloc::Global;
 
-/// Tells how a run ended: writes the text and the line of the end behind it. Nothing is written where memory ran out.
-fn tell<O: Sink>(out: &mut O, end: PlainEnd, mut text: Bytes, turns: u64) -> PlainEnd
-    requires { IsNoSinkFault end }
-    ensures told { IsTold (O.written out.old) (O.written out.new) text turns end result }
-    ensures quiet { end ≡ PlainEnd.OutOfMemory → (result ≡ PlainEnd.OutOfMemory) × (O.written out.new ≡ O.written out.old) }
-    ensures cause { IsSinkCauseOf (O.faults out.old) (O.faults out.new) result }
+/// The most bytes of a module file.
+const LIMIT: usize = 1_048_576;
+
+/// Runs the job of a module file without a folder, from its beginning.
+///
+/// The words are `run MODULE --turns N`; the file that MODULE names is the caller's to open, and at most 1,048,577 bytes of it
+/// are read. The egress of the answers, and then the line of the end, are written to `out`. Answers how the run ended, and the
+/// record of its steps.
+pub fn statefun_run<Y: Source, I: Ingress, L: Link, C: Clock, O: Sink>(
+    alloc: Global,
+    words: &[String],
+    module: &mut Y,
+    ingress: &mut I,
+    link: &mut L,
+    clock: &mut C,
+    out: &mut O,
+) -> PlainRun
+    // What the words ask for was done.
+    ensures ran { (objects : Objects) × IsCommandRun (turns_asked (map string_bytes words.now))
+        (file (Y.left «module».old) (Y.faults «module».old)) (file (Y.left «module».new) (Y.faults «module».new))
+        (around (seen_of objects (I.lists ingress.old) (C.ahead clock.old) (L.journal link.old) (L.exchanges link.old) (I.faults ingress.old) (L.faults link.old) (L.losses link.old)) (O.written out.old))
+        (around (seen_of objects (I.lists ingress.new) (C.ahead clock.new) (L.journal link.new) (L.exchanges link.new) (I.faults ingress.new) (L.faults link.new) (L.losses link.new)) (O.written out.new))
+        result.entries result.end }
+
+    // The sink is blamed exactly where it failed.
+    ensures sink_cause { IsSinkCauseOf (O.faults out.old) (O.faults out.new) result.end }
 {
-    if matches!(&end, PlainEnd::OutOfMemory) || end.put_line(&mut text, turns).is_err() {
-        return PlainEnd::OutOfMemory;
+    match read_run_words(words) {
+        Ok(asked) => run_file(alloc, asked.turns, module, ingress, link, clock, out),
+        Err(fault) => told(
+            alloc,
+            out,
+            PlainEnd::Usage { word: fault.word },
+            List::new(alloc),
+            0,
+        ),
     }
-    match write_whole(out, text.as_slice()) {
+}
+
+/// Reads a module file to its end, and runs it.
+fn run_file<Y: Source, I: Ingress, L: Link, C: Clock, O: Sink>(
+    alloc: Global,
+    turns: u64,
+    module: &mut Y,
+    ingress: &mut I,
+    link: &mut L,
+    clock: &mut C,
+    out: &mut O,
+) -> PlainRun
+    requires turns { turns ≤ 1000000000 }
+    ensures ran { (objects : Objects) × IsModuleRun turns
+        (file (Y.left «module».old) (Y.faults «module».old)) (file (Y.left «module».new) (Y.faults «module».new))
+        (around (seen_of objects (I.lists ingress.old) (C.ahead clock.old) (L.journal link.old) (L.exchanges link.old) (I.faults ingress.old) (L.faults link.old) (L.losses link.old)) (O.written out.old))
+        (around (seen_of objects (I.lists ingress.new) (C.ahead clock.new) (L.journal link.new) (L.exchanges link.new) (I.faults ingress.new) (L.faults link.new) (L.losses link.new)) (O.written out.new))
+        result.entries result.end }
+    ensures sink_cause { IsSinkCauseOf (O.faults out.old) (O.faults out.new) result.end }
+{
+    match read_up_to(alloc, module, LIMIT) {
+        Ok(bytes) => run_bytes(alloc, turns, bytes.as_slice(), ingress, link, clock, out),
+        Err(Fault::Failed) => told(alloc, out, PlainEnd::ModuleFault, List::new(alloc), 0),
+        Err(Fault::OutOfMemory) => told(alloc, out, PlainEnd::OutOfMemory, List::new(alloc), 0),
+    }
+}
+
+/// Runs what the bytes of a module file mean.
+fn run_bytes<I: Ingress, L: Link, C: Clock, O: Sink>(
+    alloc: Global,
+    turns: u64,
+    bytes: &[u8],
+    ingress: &mut I,
+    link: &mut L,
+    clock: &mut C,
+    out: &mut O,
+) -> PlainRun
+    requires turns { turns ≤ 1000000000 }
+    ensures ran { (objects : Objects) × IsRunOf (module_in bytes.now) turns
+        (around (seen_of objects (I.lists ingress.old) (C.ahead clock.old) (L.journal link.old) (L.exchanges link.old) (I.faults ingress.old) (L.faults link.old) (L.losses link.old)) (O.written out.old))
+        (around (seen_of objects (I.lists ingress.new) (C.ahead clock.new) (L.journal link.new) (L.exchanges link.new) (I.faults ingress.new) (L.faults link.new) (L.losses link.new)) (O.written out.new))
+        result.entries result.end }
+    ensures sink_cause { IsSinkCauseOf (O.faults out.old) (O.faults out.new) result.end }
+{
+    match read_module(alloc, bytes) {
+        Ok(job) => run_job(alloc, turns, job, ingress, link, clock, out),
+        Err(
+            ModuleFault::Refused {
+                document,
+                line,
+                kind,
+            },
+        ) => {
+            let end = PlainEnd::ModuleRefused {
+                document,
+                line,
+                kind,
+            };
+            told(alloc, out, end, List::new(alloc), 0)
+        }
+        Err(ModuleFault::OutOfMemory) => {
+            told(alloc, out, PlainEnd::OutOfMemory, List::new(alloc), 0)
+        }
+    }
+}
+
+/// Runs a module.
+fn run_job<I: Ingress, L: Link, C: Clock, O: Sink>(
+    alloc: Global,
+    turns: u64,
+    job: Module,
+    ingress: &mut I,
+    link: &mut L,
+    clock: &mut C,
+    out: &mut O,
+) -> PlainRun
+    requires turns { turns ≤ 1000000000 }
+    requires routable { IsTrue (is_routable job) }
+    requires bounded { AreBounded job.endpoints }
+    ensures ran { (objects : Objects) × IsRunOf (Ok job) turns
+        (around (seen_of objects (I.lists ingress.old) (C.ahead clock.old) (L.journal link.old) (L.exchanges link.old) (I.faults ingress.old) (L.faults link.old) (L.losses link.old)) (O.written out.old))
+        (around (seen_of objects (I.lists ingress.new) (C.ahead clock.new) (L.journal link.new) (L.exchanges link.new) (I.faults ingress.new) (L.faults link.new) (L.losses link.new)) (O.written out.new))
+        result.entries result.end }
+    ensures sink_cause { IsSinkCauseOf (O.faults out.old) (O.faults out.new) result.end }
+{
+    match Routes::new(alloc, job) {
+        Ok(routes) => run_turns(alloc, turns, routes, ingress, link, clock, out),
+        Err(_) => told(alloc, out, PlainEnd::OutOfMemory, List::new(alloc), 0),
+    }
+}
+
+/// Makes the turns of a module.
+fn run_turns<I: Ingress, L: Link, C: Clock, O: Sink>(
+    alloc: Global,
+    turns: u64,
+    routes: Routes,
+    ingress: &mut I,
+    link: &mut L,
+    clock: &mut C,
+    out: &mut O,
+) -> PlainRun
+    requires turns { turns ≤ 1000000000 }
+    requires bounded { AreBounded routes.endpoints }
+    ensures ran { (objects : Objects) × IsTurnsRun routes turns
+        (around (seen_of objects (I.lists ingress.old) (C.ahead clock.old) (L.journal link.old) (L.exchanges link.old) (I.faults ingress.old) (L.faults link.old) (L.losses link.old)) (O.written out.old))
+        (around (seen_of objects (I.lists ingress.new) (C.ahead clock.new) (L.journal link.new) (L.exchanges link.new) (I.faults ingress.new) (L.faults link.new) (L.losses link.new)) (O.written out.new))
+        result.entries result.end }
+    ensures sink_cause { IsSinkCauseOf (O.faults out.old) (O.faults out.new) result.end }
+{
+    let mut world = World {
+        ingress,
+        link,
+        clock,
+    };
+    let Ran { end, entries } = run(alloc, routes, turns, &mut world);
+    told(alloc, out, PlainEnd::of(end), entries, turns)
+}
+
+/// Tells how a run ended: writes its egress and the line of the end. Nothing is written where memory ran out.
+fn told<O: Sink>(
+    alloc: Global,
+    out: &mut O,
+    end: PlainEnd,
+    entries: List<Entry>,
+    turns: u64,
+) -> PlainRun
+    requires no_sink { IsNoSinkFault end }
+    ensures entries { result.entries ≡ entries }
+    ensures told { IsTold (O.written out.old) (O.written out.new) entries turns end result.end }
+    ensures sink_cause { IsSinkCauseOf (O.faults out.old) (O.faults out.new) result.end }
+{
+    let end = match tell(alloc, out, &end, entries.as_slice(), turns) {
         Ok(()) => end,
         Err(Fault::Failed) => PlainEnd::SinkFault,
         Err(Fault::OutOfMemory) => PlainEnd::OutOfMemory,
-    }
-}
-
-/// A run of a plan, from its first turn to the line of its end.
-fn run_plan<I: Ingress, L: Link, O: Sink>(
-    alloc: Global,
-    plan: Plan,
-    ingress: &mut I,
-    link: &mut L,
-    out: &mut O,
-) -> PlainRun
-    requires routable { IsTrue (is_routable plan.module) }
-    requires turns { plan.turns ≤ 1000000000 }
-    requires plain { IsPlain plan.module }
-    ensures ran { IsPlainRun plan.module PATIENCE plan.turns
-        (I.lists ingress.new) (L.journal link.old) (L.journal link.new) (L.exchanges link.new)
-        (O.written out.old) (O.written out.new)
-        (counts_of (I.faults ingress.old) (L.faults link.old) (L.losses link.old))
-        (counts_of (I.faults ingress.new) (L.faults link.new) (L.losses link.new))
-        result.entries result.end }
-    ensures fault_cause { IsFaultCause
-        (counts_of (I.faults ingress.old) (L.faults link.old) (L.losses link.old))
-        (counts_of (I.faults ingress.new) (L.faults link.new) (L.losses link.new))
-        result.end }
-    ensures complete { IsCompleteRun plan.module PATIENCE
-        (L.journal link.old) (L.journal link.new)
-        (counts_of (I.faults ingress.old) (L.faults link.old) (L.losses link.old))
-        (counts_of (I.faults ingress.new) (L.faults link.new) (L.losses link.new))
-        (O.faults out.old) (O.faults out.new)
-        result.end }
-    ensures replays { IfSome (I.lists ingress.new) (λ told. IsReplayed plan.module told result.entries) }
-    ensures backed { IfSome (I.lists ingress.new) (λ told. IfFresh (L.journal link.old)
-        (IsBackedRun plan.module told (L.exchanges link.new) result.entries)) }
-    ensures exchanges { Extends (L.exchanges link.old) (L.exchanges link.new) }
-    ensures losses { L.losses link.old ≤ L.losses link.new }
-    ensures sink_cause { IsSinkCauseOf (O.faults out.old) (O.faults out.new) result.end }
-{
-    let turns = plan.turns;
-    let Ok(routes) = Routes::new(alloc, plan.module) else {
-        return out_of_memory(alloc);
     };
-    let mut progress = Progress::new(alloc);
-    let end = drive(alloc, &routes, turns, ingress, link, &mut progress);
-    let Progress { entries, text, .. } = progress;
-    PlainRun {
-        end: tell(out, end, text, turns),
-        entries,
-    }
+    PlainRun { end, entries }
 }
 
-// A run that could not begin.
-fn out_of_memory(alloc: Global) -> PlainRun
-    ensures end { result.end ≡ PlainEnd.OutOfMemory }
-    ensures entries { result.entries ≡ [] }
-{
-    PlainRun {
-        end: PlainEnd::OutOfMemory,
-        entries: List::new(alloc),
-    }
-}
-
-/// Runs a job of one function type over one split, without a folder.
-///
-/// The words are `run TYPE URL VALUETYPE EGRESS --turns N`. Each record of split 0 becomes a letter for the function of
-/// TYPE whose id is the record's key, with an argument of type VALUETYPE; each letter becomes one request to URL, in
-/// which `{function.name}` stands for the type's name. The egress of the answers, and then the line of the end, are
-/// written to `out`. Answers how the run ended, and the record of its steps.
-pub fn statefun_run<I: Ingress, L: Link, O: Sink>(
+/// Writes the egress of a record, and the line of an end. An `Err` leaves a part of both, from the front.
+fn tell<O: Sink>(
     alloc: Global,
-    words: &[String],
-    ingress: &mut I,
-    link: &mut L,
     out: &mut O,
-) -> PlainRun
-    // Wrong words end the run, and right ones do not.
-    ensures usage { (word : ℕ) → result.end ≡ PlainEnd.Usage word → plan_of (map string_bytes words.now) ≡ Err word }
-    ensures wrong { IfErr (plan_of (map string_bytes words.now)) (λ word.
-        IsUsage word (O.written out.old) (O.written out.new) result.entries result.end) }
-    ensures untouched { IfErr (plan_of (map string_bytes words.now)) (λ word.
-        (ingress.new ≡ ingress.old) × (link.new ≡ link.old)) }
-
-    // The record and the end are those of the turns, over what was heard in them.
-    ensures ran { IfOk (plan_of (map string_bytes words.now)) (λ plan. IsPlainRun plan.module PATIENCE plan.turns
-        (I.lists ingress.new) (L.journal link.old) (L.journal link.new) (L.exchanges link.new)
-        (O.written out.old) (O.written out.new)
-        (counts_of (I.faults ingress.old) (L.faults link.old) (L.losses link.old))
-        (counts_of (I.faults ingress.new) (L.faults link.new) (L.losses link.new))
-        result.entries result.end) }
-
-    // The ingress or the link is named as the fault only where its count rose.
-    ensures fault_cause { IsFaultCause
-        (counts_of (I.faults ingress.old) (L.faults link.old) (L.losses link.old))
-        (counts_of (I.faults ingress.new) (L.faults link.new) (L.losses link.new))
-        result.end }
-
-    // With valid answers and no fault the run is done, or makes all its turns.
-    ensures complete { IfOk (plan_of (map string_bytes words.now)) (λ plan. IsCompleteRun plan.module PATIENCE
-        (L.journal link.old) (L.journal link.new)
-        (counts_of (I.faults ingress.old) (L.faults link.old) (L.losses link.old))
-        (counts_of (I.faults ingress.new) (L.faults link.new) (L.losses link.new))
-        (O.faults out.old) (O.faults out.new)
-        result.end) }
-
-    // The record is steps of the sequential machine, over the ingress' lists where these are told.
-    ensures replays { IfOk (plan_of (map string_bytes words.now)) (λ plan. IfSome (I.lists ingress.new) (λ told.
-        IsReplayed plan.module told result.entries)) }
-
-    // Each answer in the record is one that its endpoint gave, where the link tells and has started no call of a leg from 1 on.
-    ensures backed { IfOk (plan_of (map string_bytes words.now)) (λ plan. IfSome (I.lists ingress.new) (λ told.
-        IfFresh (L.journal link.old) (IsBackedRun plan.module told (L.exchanges link.new) result.entries))) }
-
-    ensures exchanges { Extends (L.exchanges link.old) (L.exchanges link.new) }
-    ensures sink_cause { IsSinkCauseOf (O.faults out.old) (O.faults out.new) result.end }
+    end: &PlainEnd,
+    entries: &[Entry],
+    turns: u64,
+) -> Result<(), Fault>
+    ensures told { OnOk result (IsTold (O.written out.old) (O.written out.new) entries.now turns end.now end.now) }
+    ensures part { OnErr result (IsPart (O.written out.old) (O.written out.new) (run_text entries.now turns end.now)) }
+    ensures cause { HasCause (O.faults out.old) (O.faults out.new) result }
 {
-    match read_words(alloc, words) {
-        Ok(plan) => run_plan(alloc, plan, ingress, link, out),
-        Err(WordsFault::Usage(word)) => PlainRun {
-            end: tell(out, PlainEnd::Usage { word }, Bytes::new(alloc), 0),
-            entries: List::new(alloc),
-        },
-        Err(WordsFault::OutOfMemory) => out_of_memory(alloc),
+    if matches!(end, PlainEnd::OutOfMemory) {
+        return Ok(());
     }
+    let mut line = Bytes::new(alloc);
+    end.put_line(&mut line, turns)?;
+    write_egress(alloc, out, entries)?;
+    write_whole(out, line.as_slice())
 }

@@ -1,0 +1,5 @@
+pub mod Puts
+pub mod Lists
+pub mod Steps
+pub mod RoundTrip
+pub mod ManifestRoundTrip

@@ -1,0 +1,5 @@
+pub mod Tabling
+pub mod Outcomes
+pub mod Backing
+pub mod Refusals
+pub mod Counting

@@ -1,0 +1,9 @@
+pub mod Faults
+pub mod Tables
+pub mod Answering
+pub mod Serving
+pub mod Asking
+pub mod Linking
+pub mod Demonstration
+pub mod Greeting
+pub mod Adding

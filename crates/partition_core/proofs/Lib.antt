@@ -1,0 +1,8 @@
+mod Idle
+mod Changing
+mod Posting
+mod Delaying
+mod TheMachine
+mod Fitting
+mod Sending
+mod InTurn

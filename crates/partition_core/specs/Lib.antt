@@ -1,0 +1,4 @@
+pub mod Work
+pub mod Batches
+pub mod Kept
+pub mod Laws

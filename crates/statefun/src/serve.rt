@@ -1,0 +1,97 @@
+//! The command `serve`: the demonstration functions, on loopback.
+use function_server::{FunctionTable, Greeter, OwnedFunction, Total, serve};
+use proto_wire::{Mem, Text};
+use std::alloc::Global;
+use std::io;
+use std::net::{Net, TcpListener, TcpStream};
+use std::sync::Wait;
+use std::thread::Threads;
+use typed_values::TypeName;
+
+/// The status of wrong words.
+const USAGE: u8 = 2;
+
+/// The status where standard output failed.
+const WRITE_FAULT: u8 = 11;
+
+/// The status where no listener could be made.
+const NO_LISTENER: u8 = 17;
+
+/// What is written where help is asked for.
+const HELP: &str = "Serves the functions com.example/greeter and com.example/total on 127.0.0.1
+
+Usage: statefun serve <PORT>
+
+Arguments:
+  <PORT>  The port, from 1 to 65535
+
+Options:
+  -h, --help  Print help
+";
+
+/// Serves the demonstration functions on the port that the words name, for ever. Gives a status where it does not come to that.
+pub(crate) fn serve_words<R>(rt: &R, alloc: Global, words: &[String]) -> Mem<u8>
+where
+    R: Net<Listener = TcpListener, Stream = TcpStream> + Print + Threads + Wait,
+{
+    match words {
+        [_, word] if is_help(word.as_str()) => Ok(told(print!(rt; "{HELP}"), 0)),
+        [_, word] => match port_in(word.as_str()) {
+            Some(port) => serve_port(rt, alloc, port),
+            None => Ok(told(print!(rt; "usage\n"), USAGE)),
+        },
+        _ => Ok(told(print!(rt; "usage\n"), USAGE)),
+    }
+}
+
+/// The status of an end whose line was written so.
+fn told(written: io::Result<()>, status: u8) -> u8 {
+    match written {
+        Ok(()) => status,
+        Err(_) => WRITE_FAULT,
+    }
+}
+
+fn is_help(word: &str) -> bool {
+    word == "-h" || word == "--help"
+}
+
+/// A port: decimal digits without a leading zero, from 1 to 65535.
+fn port_in(word: &str) -> Option<u16> {
+    match word.as_bytes() {
+        [first, ..] if b'1' <= *first && *first <= b'9' => word.parse::<u16>().ok(),
+        _ => None,
+    }
+}
+
+fn serve_port<R>(rt: &R, alloc: Global, port: u16) -> Mem<u8>
+where
+    R: Net<Listener = TcpListener, Stream = TcpStream> + Print + Threads + Wait,
+{
+    let table = table(alloc)?;
+    let Ok(listener) = TcpListener::bind(rt, ("127.0.0.1", port)) else {
+        return Ok(told(print!(rt; "no listener\n"), NO_LISTENER));
+    };
+    if print!(rt; "serving {port}\n").is_err() {
+        return Ok(WRITE_FAULT);
+    }
+    serve(rt, alloc, &listener, &table);
+    Ok(0)
+}
+
+/// The demonstration functions.
+fn table(alloc: Global) -> Mem<FunctionTable> {
+    let mut entries = Vec::new(alloc);
+    let greeter: OwnedFunction = Box::new(alloc, Greeter)?;
+    entries.push((name(alloc, "greeter")?, greeter))?;
+    let total: OwnedFunction = Box::new(alloc, Total)?;
+    entries.push((name(alloc, "total")?, total))?;
+    Ok(FunctionTable::new(entries))
+}
+
+fn name(alloc: Global, name: &str) -> Mem<TypeName> {
+    Ok(TypeName {
+        namespace: Text::copy_of(alloc, "com.example")?,
+        name: Text::copy_of(alloc, name)?,
+    })
+}

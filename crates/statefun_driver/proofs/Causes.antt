@@ -1,0 +1,218 @@
+-- Why a run ends, and that it is complete.
+use Rattle.std.proofs.Common.{◌≡◌, ◌∙◌, refl, sym, ap, subst, ℕ, ◌+◌, ◌≤◌, List, [], ◌∷◌, length, Bool, true, false, cond, ◌⊎◌, inl, inr, Option, Some, None, arith, nat_lt, nat_le, leb-false}
+use Rattle.std.specs.Prelude.{max}
+use Rattle.sf_outside.specs.Told.{Rose}
+use Rattle.sf_outside.specs.declared.call.Answered.{Answered}
+use Rattle.request_reply.specs.declared.flaw.Reason.{Reason}
+use Rattle.address_routing.specs.declared.module.Module.{Module}
+use Rattle.run_record.specs.declared.entry.Entry.{Entry}
+use Rattle.statefun_driver.specs.declared.end.Broken.{Broken}
+use Rattle.statefun_driver.specs.declared.end.Broken.TheVariants.{Ingress, Link, Memory}
+use Rattle.statefun_driver.specs.declared.end.End.{End}
+use Rattle.statefun_driver.specs.declared.end.End.TheVariants.{Done, TurnsSpent, RecordTooLarge, BatchTooLarge, EndpointFailed, Broke}
+use Rattle.statefun_driver.specs.Seen.{Event, Read, Now, Start, Poll, Fails, Seen, Hears, HearsFail}
+use Rattle.statefun_driver.specs.Turns.{Plan, Control, Phase, Reading, Asking, Opening, Waiting, Stopped, Asked, Came, Answers, Failed, IsAsked, goes_on, take_record, size_of, longest}
+use Rattle.statefun_driver.specs.Turns.{own_part, came, with_reason, attempts_at, patience_at}
+use Rattle.statefun_driver.specs.Traces.{Trace, IsEnd}
+use Rattle.statefun_driver.specs.Runs.{AreCalm, AreCalmBy, IsCauseOf, IsServedBy, IsServed, IsRoomy, AreServed, IsComplete, NoneRose}
+use Rattle.statefun_driver.proofs.Resting.{Rests, rest_finish, rest_open, rest_read, rest_read_on}
+use Rattle.statefun_driver.proofs.Moving.{Moved, BrokeOff, ReadNone, ReadLarge, Took, SawMoment, Began, PolledNone, FailedBy, Accepts, Misses, accepted, missed}
+use Rattle.statefun_driver.proofs.Standing.{Laws, IsFit, IsSound, Stands}
+use Rattle.statefun_driver.proofs.Ways.{moved, sound_next}
+
+-- ---- the counts of faults
+
+-- no object broke the run off
+abbrev pub IsUnbroken : Phase → Type 0
+IsUnbroken (Stopped (Broke by)) = ⊥
+IsUnbroken phase = Unit {0}
+
+pub unbroken_rests : Rests IsUnbroken
+unbroken_rests = record { asking = tt; reading = λ split count. tt; opening = λ batch. tt; done = λ taken. tt; spent = λ taken. tt; large = λ address size limit. tt }
+
+abbrev is_fail : Event → Bool
+is_fail (Fails by) = true
+is_fail event = false
+
+tried_unbroken : (batch : Asked) (t : Bool) → IsUnbroken (cond t (Opening batch) (Stopped (EndpointFailed batch.address batch.reasons)))
+tried_unbroken batch true = tt
+tried_unbroken batch false = tt
+
+unbroken_one : (plan : Plan) (c : Control) (event : Event) (d : Control) → Moved plan c event d → is_fail event ≡ false → IsUnbroken d.phase
+unbroken_one plan c _ _ (BrokeOff by) h = absurd (let k : true ≡ false = h in cc)
+unbroken_one plan c _ _ (ReadNone split count offset e is) h = rest_read IsUnbroken unbroken_rests plan (split + 1) c
+unbroken_one plan c _ _ (ReadLarge split count offset found e large) h = tt
+unbroken_one plan c _ _ (Took split count offset found e is) h = rest_read_on IsUnbroken unbroken_rests plan split (count + 1) (take_record plan.routes split found c)
+unbroken_one plan c _ _ (SawMoment moment e) h = rest_read IsUnbroken unbroken_rests plan 0 (record c { moment = max c.moment moment })
+unbroken_one plan c _ _ (Began batch url request e place is) h = tt
+unbroken_one plan c _ _ (PolledNone batch call k outcome e) h = tt
+unbroken_one plan c _ _ (FailedBy batch call k outcome why e is late) h = tried_unbroken (with_reason batch why) (nat_lt (length (with_reason batch why).reasons) (attempts_at plan.routes batch.address))
+unbroken_one plan c _ _ (Accepts batch call k outcome answer effects e own is) h = rest_finish IsUnbroken unbroken_rests plan (accepted plan batch call answer effects c)
+unbroken_one plan c _ _ (Misses batch call k outcome answer specs e own is) h = rest_open IsUnbroken unbroken_rests plan batch.address (length batch.letters) (missed plan batch call answer specs c)
+
+abbrev pub Caused : Seen → Seen → Phase → Type 0
+Caused before now (Stopped end) = IsCauseOf (Stopped end) before now end
+Caused before now phase = AreCalm before now
+
+calm_then : (a b c : Seen) → AreCalm a b → AreCalm b c → AreCalm a c
+calm_then a b c h k = (k.0 ∙ h.0, k.1 ∙ h.1)
+
+calm_asked : (m : Module) (before now : Seen) (phase : Phase) (c : Control) (event : Event) → IsAsked m phase c event → Caused before now phase → AreCalm before now
+calm_asked m before now Asking c event asked h = h
+calm_asked m before now (Reading split count) c event asked h = h
+calm_asked m before now (Opening batch) c event asked h = h
+calm_asked m before now (Waiting batch call k) c event asked h = h
+calm_asked m before now (Stopped end) c event asked h = absurd asked
+
+calm_caused : (before now : Seen) (phase : Phase) → IsUnbroken phase → AreCalm before now → Caused before now phase
+calm_caused before now Asking u h = h
+calm_caused before now (Reading split count) u h = h
+calm_caused before now (Opening batch) u h = h
+calm_caused before now (Waiting batch call k) u h = h
+calm_caused before now (Stopped (Done taken)) u h = h
+calm_caused before now (Stopped (TurnsSpent taken)) u h = h
+calm_caused before now (Stopped (RecordTooLarge split offset size)) u h = h
+calm_caused before now (Stopped (BatchTooLarge address size limit)) u h = h
+calm_caused before now (Stopped (EndpointFailed address reasons)) u h = h
+calm_caused before now (Stopped (Broke by)) u h = absurd u
+
+broke_caused : (before o p : Seen) (by : Broken) → AreCalm before o → HearsFail by o p → IsCauseOf (Stopped (Broke by)) before p (Broke by)
+broke_caused before o p Ingress h k = (subst (λ (n : ℕ). n ≤ p.ingress_faults) h.0 (k.cause).0, subst (λ (n : ℕ). Rose n p.ingress_faults) h.0 (k.cause).1, (k.cause).2 ∙ h.1)
+broke_caused before o p Link h k = ((k.cause).0 ∙ h.0, subst (λ (n : ℕ). n ≤ p.link_faults) h.1 (k.cause).1, subst (λ (n : ℕ). Rose n p.link_faults) h.1 (k.cause).2)
+broke_caused before o p Memory h k = calm_then before o p h k.cause
+
+-- an event is calm, or it is a failure
+by_event : (event : Event) (o p : Seen) → Hears event o p → ((is_fail event ≡ false) × AreCalm o p) ⊎ ((by : Broken) × (event ≡ Fails by) × HearsFail by o p)
+by_event (Read split offset found) o p h = inl (refl, (ap (λ (x : Seen). x.ingress_faults) h.others, ap (λ (x : Seen). x.link_faults) h.others))
+by_event (Now moment) o p h = inl (refl, (ap (λ (x : Seen). x.ingress_faults) h.others, ap (λ (x : Seen). x.link_faults) h.others))
+by_event (Start call url request) o p h = inl (refl, (ap (λ (x : Seen). x.ingress_faults) h.others, ap (λ (x : Seen). x.link_faults) h.others))
+by_event (Poll outcome) o p h = inl (refl, (ap (λ (x : Seen). x.ingress_faults) h.others, ap (λ (x : Seen). x.link_faults) h.others))
+by_event (Fails by) o p h = inr (by, refl, h)
+
+same_by : (a b : Broken) → Fails a ≡ Fails b → a ≡ b
+same_by a b h = cc
+
+no_fail : (event : Event) (by : Broken) → is_fail event ≡ false → event ≡ Fails by → ⊥
+no_fail event by h e = absurd (let k : false ≡ true = sym h ∙ ap is_fail e in cc)
+
+broke_off : (plan : Plan) (c : Control) (event : Event) (x : Control) (by : Broken) → event ≡ Fails by → Moved plan c event x → x.phase ≡ Stopped (Broke by)
+broke_off plan c _ _ by e (BrokeOff other) = ap (λ (b : Broken). Stopped (Broke b)) (same_by other by e)
+broke_off plan c _ _ by e (ReadNone split count offset f is) = absurd (no_fail _ by refl e)
+broke_off plan c _ _ by e (ReadLarge split count offset found f large) = absurd (no_fail _ by refl e)
+broke_off plan c _ _ by e (Took split count offset found f is) = absurd (no_fail _ by refl e)
+broke_off plan c _ _ by e (SawMoment moment f) = absurd (no_fail _ by refl e)
+broke_off plan c _ _ by e (Began batch url request f place is) = absurd (no_fail _ by refl e)
+broke_off plan c _ _ by e (PolledNone batch call k outcome f) = absurd (no_fail _ by refl e)
+broke_off plan c _ _ by e (FailedBy batch call k outcome why f is late) = absurd (no_fail _ by refl e)
+broke_off plan c _ _ by e (Accepts batch call k outcome answer effects f own is) = absurd (no_fail _ by refl e)
+broke_off plan c _ _ by e (Misses batch call k outcome answer specs f own is) = absurd (no_fail _ by refl e)
+
+pub caused_one : (plan : Plan) (before : Seen) (c : Control) (o : Seen) (event : Event) (x : Control) (p : Seen) → IsAsked plan.routes c.phase c event → Moved plan c event x → Hears event o p → Caused before o c.phase → Caused before p x.phase
+caused_one plan before c o event x p asked m heard h = by (by_event event o p heard)
+  where
+    calm : AreCalm before o
+    calm = calm_asked plan.routes before o c.phase c event asked h
+
+    by : ((is_fail event ≡ false) × AreCalm o p) ⊎ ((b : Broken) × (event ≡ Fails b) × HearsFail b o p) → Caused before p x.phase
+    by (inl k) = calm_caused before p x.phase (unbroken_one plan c event x m k.0) (calm_then before o p calm k.1)
+    by (inr k) = subst (Caused before p) (sym (broke_off plan c event x k.0 k.1 m)) (broke_caused before o p k.0 calm k.2)
+
+-- ---- completeness
+
+-- no end for want of service
+abbrev pub IsFine : Phase → Type 0
+IsFine (Stopped (RecordTooLarge split offset size)) = ⊥
+IsFine (Stopped (BatchTooLarge address size limit)) = ⊥
+IsFine (Stopped (EndpointFailed address reasons)) = ⊥
+IsFine phase = Unit {0}
+
+-- beside a batch that is too large
+abbrev IsPassed : Phase → Type 0
+IsPassed (Stopped (RecordTooLarge split offset size)) = ⊥
+IsPassed (Stopped (EndpointFailed address reasons)) = ⊥
+IsPassed phase = Unit {0}
+
+passed_rests : Rests IsPassed
+passed_rests = record { asking = tt; reading = λ split count. tt; opening = λ batch. tt; done = λ taken. tt; spent = λ taken. tt; large = λ address size limit. tt }
+
+too_large : (a b : ℕ) → a ≤ b → nat_le a b ≡ false → ⊥
+too_large a b h e = absurd (let k = leb-false a b e in omega (arith, k, h))
+
+served_not : (k patience : ℕ) (came : Came) (told : Option Answered) (why : Reason) → IsServedBy k patience came told → came ≡ Failed why → (told ≡ None → patience ≤ k + 1) → ⊥
+served_not k patience came None why h s late = let n = late refl in absurd (omega (arith, h, n))
+served_not k patience (Answers answer judged) (Some what) why h s late = absurd cc
+served_not k patience (Failed other) (Some what) why h s late = h
+
+served_in : (m : Module) (c : Control) (phase : Phase) (event : Event) → c.phase ≡ phase → IsServed m c.phase c event → IsServed m phase c event
+served_in m c phase event e h = subst (λ (x : Phase). IsServed m x c event) e h
+
+passed_one : (plan : Plan) (c : Control) (event : Event) (d : Control) → Moved plan c event d → IsServed plan.routes c.phase c event → IsPassed d.phase
+passed_one plan c _ _ (BrokeOff by) h = tt
+passed_one plan c _ _ (ReadNone split count offset e is) h = rest_read IsPassed passed_rests plan (split + 1) c
+passed_one plan c _ _ (ReadLarge split count offset found e large) h = absurd (too_large (size_of found) longest (served_in plan.routes c (Reading split count) _ e h) large)
+passed_one plan c _ _ (Took split count offset found e is) h = rest_read_on IsPassed passed_rests plan split (count + 1) (take_record plan.routes split found c)
+passed_one plan c _ _ (SawMoment moment e) h = rest_read IsPassed passed_rests plan 0 (record c { moment = max c.moment moment })
+passed_one plan c _ _ (Began batch url request e place is) h = tt
+passed_one plan c _ _ (PolledNone batch call k outcome e) h = tt
+passed_one plan c _ _ (FailedBy batch call k outcome why e is late) h =
+    absurd (served_not k (patience_at plan.routes batch.address) (came plan.routes c batch.address (own_part call outcome)) (own_part call outcome) why (served_in plan.routes c (Waiting batch call k) _ e h) is late)
+passed_one plan c _ _ (Accepts batch call k outcome answer effects e own is) h = rest_finish IsPassed passed_rests plan (accepted plan batch call answer effects c)
+passed_one plan c _ _ (Misses batch call k outcome answer specs e own is) h = rest_open IsPassed passed_rests plan batch.address (length batch.letters) (missed plan batch call answer specs c)
+
+fine_roomy : (plan : Plan) (c : Control) (phase : Phase) → IsPassed phase → IsRoomy phase → Stands plan phase c → IsFine phase
+fine_roomy plan c Asking p r s = tt
+fine_roomy plan c (Reading split count) p r s = tt
+fine_roomy plan c (Opening batch) p r s = tt
+fine_roomy plan c (Waiting batch call k) p r s = tt
+fine_roomy plan c (Stopped (Done taken)) p r s = tt
+fine_roomy plan c (Stopped (TurnsSpent taken)) p r s = tt
+fine_roomy plan c (Stopped (RecordTooLarge split offset size)) p r s = p
+fine_roomy plan c (Stopped (BatchTooLarge address size limit)) p r s = let k = s.0 in absurd (omega (arith, k, r))
+fine_roomy plan c (Stopped (EndpointFailed address reasons)) p r s = p
+fine_roomy plan c (Stopped (Broke by)) p r s = tt
+
+pub fine_along : (laws : Laws) (plan : Plan) → IsFit plan.routes → (c : Control) (o : Seen) (events : List Event) (d : Control) (q : Seen) → Trace plan c o events d q → IsSound plan c → AreServed plan c events → IsFine c.phase → IsFine d.phase
+fine_along laws plan fit c o [] d q t s h f = subst (λ (x : Control). IsFine x.phase) t.0 f
+fine_along laws plan fit c o (event ∷ events) d q t s h f =
+    let next = goes_on plan c.phase c event in
+    let sound = sound_next laws plan fit c event s t.1 in
+    fine_along laws plan fit next t.0 events d q t.3 sound h.2 (fine_roomy plan next next.phase (passed_one plan c event next (moved plan c event s t.1) h.0) h.1 sound.stands)
+
+-- ---- ends
+
+caused_end : (before now : Seen) (phase : Phase) (end : End) → phase ≡ Stopped end → Caused before now phase → IsCauseOf (Stopped end) before now end
+caused_end before now phase end e h = subst (Caused before now) e h
+
+calm_by : (before now : Seen) (phase : Phase) → Caused before now phase → AreCalmBy phase before now
+calm_by before now Asking h = h
+calm_by before now (Reading split count) h = h
+calm_by before now (Opening batch) h = h
+calm_by before now (Waiting batch call k) h = h
+calm_by before now (Stopped (Done taken)) h = h
+calm_by before now (Stopped (TurnsSpent taken)) h = h
+calm_by before now (Stopped (RecordTooLarge split offset size)) h = h
+calm_by before now (Stopped (BatchTooLarge address size limit)) h = h
+calm_by before now (Stopped (EndpointFailed address reasons)) h = h
+calm_by before now (Stopped (Broke Ingress)) h = tt
+calm_by before now (Stopped (Broke Link)) h = tt
+calm_by before now (Stopped (Broke Memory)) h = h
+
+pub cause_is : (before now : Seen) (last : Control) (entries : List Entry) (end : End) → IsEnd last entries end → Caused before now last.phase → IsCauseOf last.phase before now end
+cause_is before now last entries (Broke Memory) e h = calm_by before now last.phase h
+cause_is before now last entries (Broke Ingress) e h = caused_end before now last.phase (Broke Ingress) e.0 h
+cause_is before now last entries (Broke Link) e h = caused_end before now last.phase (Broke Link) e.0 h
+cause_is before now last entries (Done taken) e h = caused_end before now last.phase (Done taken) e.0 h
+cause_is before now last entries (TurnsSpent taken) e h = caused_end before now last.phase (TurnsSpent taken) e.0 h
+cause_is before now last entries (RecordTooLarge split offset size) e h = caused_end before now last.phase (RecordTooLarge split offset size) e.0 h
+cause_is before now last entries (BatchTooLarge address size limit) e h = caused_end before now last.phase (BatchTooLarge address size limit) e.0 h
+cause_is before now last entries (EndpointFailed address reasons) e h = caused_end before now last.phase (EndpointFailed address reasons) e.0 h
+
+pub fine_end : (before now : Seen) (last : Control) (entries : List Entry) (end : End) → IsFine last.phase → IsEnd last entries end → IsCauseOf last.phase before now end → NoneRose before now → IsComplete end
+fine_end before now last entries (Done taken) f e k n = tt
+fine_end before now last entries (TurnsSpent taken) f e k n = tt
+fine_end before now last entries (Broke Memory) f e k n = tt
+fine_end before now last entries (Broke Ingress) f e k n = n.ingress k.1
+fine_end before now last entries (Broke Link) f e k n = n.link k.2
+fine_end before now last entries (RecordTooLarge split offset size) f e k n = let h : IsFine (Stopped (RecordTooLarge split offset size)) = subst IsFine e.0 f in h
+fine_end before now last entries (BatchTooLarge address size limit) f e k n = let h : IsFine (Stopped (BatchTooLarge address size limit)) = subst IsFine e.0 f in h
+fine_end before now last entries (EndpointFailed address reasons) f e k n = let h : IsFine (Stopped (EndpointFailed address reasons)) = subst IsFine e.0 f in h

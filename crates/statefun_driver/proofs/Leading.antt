@@ -1,0 +1,69 @@
+-- What leads on: the parts of a run, one after the other.
+use Rattle.std.proofs.Common.{◌≡◌, refl, sym, ◌∙◌, ap, subst, List, [], ◌∷◌, ◌++◌, Result, Ok, Err, append-nil}
+use Rattle.run_record.specs.declared.entry.Entry.{Entry}
+use Rattle.statefun_driver.specs.declared.end.Broken.{Broken}
+use Rattle.statefun_driver.specs.declared.end.Broken.TheVariants.{Ingress, Link, Memory}
+use Rattle.statefun_driver.specs.declared.end.End.{End}
+use Rattle.statefun_driver.specs.declared.end.End.TheVariants.{Broke}
+use Rattle.statefun_driver.specs.Seen.{Event, Fails, Seen, Hears, HearsFail}
+use Rattle.statefun_driver.specs.Turns.{Plan, Control, Phase, Reading, Asking, Opening, Waiting, Stopped, IsAsked, goes_on, at}
+use Rattle.statefun_driver.specs.Traces.{Trace, Leads, Ends, IsEnd, IsFront}
+use Rattle.statefun_driver.specs.Work.{Led, LedBy}
+
+trace_then : (plan : Plan) (a : Control) (o : Seen) (events more : List Event) (b : Control) (p : Seen) (c : Control) (q : Seen) → Trace plan a o events b p → Trace plan b p more c q → Trace plan a o (events ++ more) c q
+trace_then plan a o [] more b p c q h k = subst (λ (x : Control). Trace plan x o more c q) (sym h.0) (subst (λ (x : Seen). Trace plan b x more c q) (sym h.1) k)
+trace_then plan a o (event ∷ events) more b p c q h k = (h.0, h.1, h.2, trace_then plan (goes_on plan a.phase a event) h.0 events more b p c q h.3 k)
+
+pub leads_none : (plan : Plan) (a : Control) (o : Seen) → Leads plan a o a o
+leads_none plan a o = ([], (refl, refl))
+
+pub leads_then : (plan : Plan) (a : Control) (o : Seen) (b : Control) (p : Seen) (c : Control) (q : Seen) → Leads plan a o b p → Leads plan b p c q → Leads plan a o c q
+leads_then plan a o b p c q h k = (h.0 ++ k.0, trace_then plan a o h.0 k.0 b p c q h.1 k.1)
+
+-- one event
+pub leads_one : (plan : Plan) (a : Control) (o : Seen) (event : Event) (p : Seen) → IsAsked plan.routes a.phase a event → Hears event o p → Leads plan a o (goes_on plan a.phase a event) p
+leads_one plan a o event p asked heard = (event ∷ [], (p, asked, heard, (refl, refl)))
+
+pub ends_then : (plan : Plan) (a : Control) (o : Seen) (b : Control) (p : Seen) (entries : List Entry) (end : End) (q : Seen) → Leads plan a o b p → Ends plan b p entries end q → Ends plan a o entries end q
+ends_then plan a o b p entries end q h k = record { last = k.last; leads = leads_then plan a o b p k.last q h k.leads; is_end = k.is_end }
+
+-- what a phase is, if it is no end
+abbrev pub IsOn : Phase → Type 0
+IsOn (Stopped end) = ⊥
+IsOn phase = Unit {0}
+
+on_asked : (plan : Plan) (phase : Phase) (c : Control) (by : Broken) → IsOn phase → IsAsked plan.routes phase c (Fails by)
+on_asked plan (Stopped end) c by h = absurd h
+on_asked plan (Reading split count) c by h = tt
+on_asked plan Asking c by h = tt
+on_asked plan (Opening batch) c by h = tt
+on_asked plan (Waiting batch call polls) c by h = tt
+
+on_goes : (plan : Plan) (phase : Phase) (c : Control) (by : Broken) → IsOn phase → goes_on plan phase c (Fails by) ≡ at (Stopped (Broke by)) c
+on_goes plan (Stopped end) c by h = absurd h
+on_goes plan (Reading split count) c by h = refl
+on_goes plan Asking c by h = refl
+on_goes plan (Opening batch) c by h = refl
+on_goes plan (Waiting batch call polls) c by h = refl
+
+broken_end : (c : Control) (by : Broken) → IsEnd (at (Stopped (Broke by)) c) c.entries (Broke by)
+broken_end c Ingress = (refl, refl)
+broken_end c Link = (refl, refl)
+broken_end c Memory = ([], sym (append-nil c.entries))
+
+-- an object failed
+pub ends_failing : (plan : Plan) (a : Control) (o : Seen) (c : Control) (p : Seen) (by : Broken) (q : Seen) → Leads plan a o c p → IsOn c.phase → HearsFail by p q → Ends plan a o c.entries (Broke by) q
+ends_failing plan a o c p by q h on heard = record {
+  last = at (Stopped (Broke by)) c;
+  leads = leads_then plan a o c p (at (Stopped (Broke by)) c) q h
+      (subst (λ (d : Control). Leads plan c p d q) (on_goes plan c.phase c by on) (leads_one plan c p (Fails by) q (on_asked plan c.phase c by on) heard));
+  is_end = broken_end c by;
+}
+
+-- memory ran out
+pub ends_wanting : (plan : Plan) (a : Control) (o : Seen) (c : Control) (entries : List Entry) (p : Seen) → Leads plan a o c p → IsFront entries c.entries → Ends plan a o entries (Broke Memory) p
+ends_wanting plan a o c entries p h front = record { last = c; leads = h; is_end = front }
+
+pub led_then : {A : Type 0} (plan : Plan) (a : Control) (o : Seen) (b : Control) (p : Seen) (r : Result A End) (c : Control) (entries : List Entry) (q : Seen) → Leads plan a o b p → Led plan b p r c entries q → Led plan a o r c entries q
+led_then plan a o b p (Ok x) c entries q h k = leads_then plan a o b p c q h k
+led_then plan a o b p (Err end) c entries q h k = ends_then plan a o b p entries end q h k
