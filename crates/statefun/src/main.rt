@@ -9,7 +9,7 @@ mod serve;
 
 use http_link::{Caller, HttpLink, make_all};
 use proto_wire::{Mem, Text};
-use serve::serve_words;
+use serve::serve_command;
 use sf_clock::SystemClock;
 use sf_outside::{FolderIngress, ReaderSource, Source, WriterSink};
 use statefun_cli::{PlainEnd, statefun_decode, statefun_run};
@@ -28,7 +28,7 @@ fn main(rt: HostRuntime) -> ExitCode {
         return ExitCode::from(PlainEnd::OutOfMemory.status());
     };
     let made = if is_serve(words.as_slice()) {
-        serve_words(&rt, alloc, words.as_slice())
+        serve_command(&rt, alloc, words.as_slice())
     } else {
         command(&rt, &Caller::new(make), words.as_slice())
     };

@@ -1,6 +1,7 @@
 //! The command `serve`: the demonstration functions, on loopback.
 use function_server::{FunctionTable, Greeter, OwnedFunction, Total, serve};
 use proto_wire::{Mem, Text};
+use serve_words::{ServeAsk, read_serve_words};
 use std::alloc::Global;
 use std::io;
 use std::net::{Net, TcpListener, TcpStream};
@@ -30,17 +31,14 @@ Options:
 ";
 
 /// Serves the demonstration functions on the port that the words name, for ever. Gives a status where it does not come to that.
-pub(crate) fn serve_words<R>(rt: &R, alloc: Global, words: &[String]) -> Mem<u8>
+pub(crate) fn serve_command<R>(rt: &R, alloc: Global, words: &[String]) -> Mem<u8>
 where
     R: Net<Listener = TcpListener, Stream = TcpStream> + Print + Threads + Wait,
 {
-    match words {
-        [_, word] if is_help(word.as_str()) => Ok(told(print!(rt; "{HELP}"), 0)),
-        [_, word] => match port_in(word.as_str()) {
-            Some(port) => serve_port(rt, alloc, port),
-            None => Ok(told(print!(rt; "usage\n"), USAGE)),
-        },
-        _ => Ok(told(print!(rt; "usage\n"), USAGE)),
+    match read_serve_words(alloc, words)? {
+        ServeAsk::Port(port) => serve_port(rt, alloc, port),
+        ServeAsk::Help => Ok(told(print!(rt; "{HELP}"), 0)),
+        ServeAsk::Usage => Ok(told(print!(rt; "usage\n"), USAGE)),
     }
 }
 
@@ -49,18 +47,6 @@ fn told(written: io::Result<()>, status: u8) -> u8 {
     match written {
         Ok(()) => status,
         Err(_) => WRITE_FAULT,
-    }
-}
-
-fn is_help(word: &str) -> bool {
-    word == "-h" || word == "--help"
-}
-
-/// A port: decimal digits without a leading zero, from 1 to 65535.
-fn port_in(word: &str) -> Option<u16> {
-    match word.as_bytes() {
-        [first, ..] if b'1' <= *first && *first <= b'9' => word.parse::<u16>().ok(),
-        _ => None,
     }
 }
 
