@@ -8,10 +8,12 @@ use Rattle.egress_commit.proofs.open.check_epochs.Goals as goal
 pub returns-in-None-clause-refuses : goal.returns-in-None-clause-refuses
 returns-in-None-clause-refuses g c =
     let i = c.loop-position.position-index in
-    let same = c.as_slice-position-items.ensures ∙ c.blocks-2.ensures in
-    (refl, λ m told bodies opened. breaks_here c.args.log.now bodies (m 1) i opened (subst (λ (l : List ℕ). i < length l) same c.loop-position-test.true) _ (ap (λ (l : List ℕ). slice_index_or l i 0) same) c.in_ok-_records.field-0
-    (λ b at. c.in_ok-_records.ensures.epoch m (ap newest c.loop-position.invariant.same ∙ told) bodies b opened at ∙ ap (λ (k : ℕ). epoch_in k b) (omega (arith, c.loop-position.invariant.number)))
-    (c.loop-position.invariant.spelled m told bodies opened) c.in-None.is)
+    let same = c.as_slice-position-items.ensures ∙ c.blocks-2.ensures in (
+      refl,
+      λ m told bodies opened. breaks_here c.args.log.now bodies (m 1) i opened (subst (λ (l : List ℕ). i < length l) same c.loop-position-test.true) _ (ap (λ (l : List ℕ). slice_index_or l i 0) same) c.in_ok-_records.field-0
+          (λ b at. c.in_ok-_records.ensures.epoch m (ap newest c.loop-position.invariant.same ∙ told) bodies b opened at ∙ ap (λ (k : ℕ). epoch_in k b) (omega (arith, c.loop-position.invariant.number)))
+          (c.loop-position.invariant.spelled m told bodies opened) c.in-None.is,
+    )
 
 pub loop-position-preserved : goal.loop-position-preserved
 loop-position-preserved g c =

@@ -13,7 +13,7 @@ pub returns-in_err-check_epochs-clause-meanwhile :
 returns-in_err-check_epochs-clause-meanwhile g c = since_to _ _ _ _ c.check_epochs.ensures.same (file_as 1 _ _ _ _ c.open_log.ensures.meanwhile (λ m n told. follows_epochs (m 1) n))
 
 pub returns-in_err-check_epochs-clause-refuses : goal.returns-in_err-check_epochs-clause-refuses
-returns-in_err-check_epochs-clause-refuses g c = 
+returns-in_err-check_epochs-clause-refuses g c =
     let p = err_from_is_err_and c.from_residual.result c.from_residual.ensures.1 in
     rw (p.1, p.2) (refused_of c.in-Ok.log _ _ c.in-Ok.ensures.opened _ c.in_err-check_epochs.ensures.refuses)
 
