@@ -6,6 +6,7 @@ mod calling;
 mod serving;
 
 use calling::{calls, url_of};
+use function_server::Greeter;
 use http_link::{Caller, make_all};
 use proto_wire::OutOfMemory;
 use serving::{serve_one, table};
@@ -18,7 +19,10 @@ fn main(rt: HostRuntime) -> ExitCode {
     let Ok(make) = Box::new(alloc, move |calls| make_all(&rt, alloc, calls)) else {
         return ExitCode::FAILURE;
     };
-    let Ok(table) = table(alloc) else {
+    let Ok(greeter) = Box::new(alloc, Greeter) else {
+        return ExitCode::FAILURE;
+    };
+    let Ok(table) = table(alloc, greeter) else {
         return ExitCode::FAILURE;
     };
     let Ok(listener) = TcpListener::bind(&rt, ("127.0.0.1", 0)) else {

@@ -1,5 +1,5 @@
 //! The functions, and one connection to them.
-use function_server::{FunctionTable, Greeter, OwnedFunction, serve_connection};
+use function_server::{FunctionTable, OwnedFunction, serve_connection};
 use proto_wire::{Mem, Text};
 use sf_outside::{ReaderSource, WriterSink};
 use std::alloc::Global;
@@ -17,9 +17,8 @@ pub(crate) fn serve_one(alloc: Global, table: &FunctionTable, listener: &TcpList
 }
 
 /// The greeter alone.
-pub(crate) fn table(alloc: Global) -> Mem<FunctionTable> {
+pub(crate) fn table(alloc: Global, greeter: OwnedFunction) -> Mem<FunctionTable> {
     let mut entries = Vec::new(alloc);
-    let greeter: OwnedFunction = Box::new(alloc, Greeter)?;
     let name = TypeName {
         namespace: Text::copy_of(alloc, "com.example")?,
         name: Text::copy_of(alloc, "greeter")?,

@@ -17,7 +17,9 @@ pub(crate) fn run(rt: &HostRuntime, records: u32, letters: u32) -> Mem<u8> {
     let words = words(alloc)?;
     let mut file = MemorySource::steady(alloc, file(alloc, letters)?)?;
     let mut ingress = MemoryIngress::steady(alloc, splits(alloc, records)?)?;
-    let mut link = Answering::new(alloc, table(alloc)?);
+    let greeter: OwnedFunction = Box::new(alloc, Greeter)?;
+    let total: OwnedFunction = Box::new(alloc, Total)?;
+    let mut link = Answering::new(alloc, table(alloc, greeter, total)?);
     let mut clock = ScriptClock::steady(alloc, List::new(alloc))?;
     let mut out = WriterSink::new(rt.stdout());
     let made = statefun_run(
@@ -70,11 +72,9 @@ fn record(alloc: Global, place: u32) -> Mem<IngressRecord> {
 }
 
 /// The functions.
-fn table(alloc: Global) -> Mem<FunctionTable> {
+fn table(alloc: Global, greeter: OwnedFunction, total: OwnedFunction) -> Mem<FunctionTable> {
     let mut entries = Vec::new(alloc);
-    let greeter: OwnedFunction = Box::new(alloc, Greeter)?;
     entries.push((name(alloc, "greeter")?, greeter))?;
-    let total: OwnedFunction = Box::new(alloc, Total)?;
     entries.push((name(alloc, "total")?, total))?;
     Ok(FunctionTable::new(entries))
 }

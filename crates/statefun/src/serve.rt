@@ -54,7 +54,9 @@ fn serve_port<R>(rt: &R, alloc: Global, port: u16) -> Mem<u8>
 where
     R: Net<Listener = TcpListener, Stream = TcpStream> + Print + Threads + Wait,
 {
-    let table = table(alloc)?;
+    let greeter: OwnedFunction = Box::new(alloc, Greeter)?;
+    let total: OwnedFunction = Box::new(alloc, Total)?;
+    let table = table(alloc, greeter, total)?;
     let Ok(listener) = TcpListener::bind(rt, ("127.0.0.1", port)) else {
         return Ok(told(print!(rt; "no listener\n"), NO_LISTENER));
     };
@@ -66,11 +68,9 @@ where
 }
 
 /// The demonstration functions.
-fn table(alloc: Global) -> Mem<FunctionTable> {
+fn table(alloc: Global, greeter: OwnedFunction, total: OwnedFunction) -> Mem<FunctionTable> {
     let mut entries = Vec::new(alloc);
-    let greeter: OwnedFunction = Box::new(alloc, Greeter)?;
     entries.push((name(alloc, "greeter")?, greeter))?;
-    let total: OwnedFunction = Box::new(alloc, Total)?;
     entries.push((name(alloc, "total")?, total))?;
     Ok(FunctionTable::new(entries))
 }
