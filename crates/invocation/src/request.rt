@@ -23,7 +23,6 @@ impl Request {
     /// order with the values that are there at the moment, and the letters in order. A caller stands only for a function's
     /// letter. Its canonical spelling has at most `max_bytes` bytes where the batch is one of `open_batch`, whose `head_bytes`
     /// were those of this address, these cells and this moment.
-    #[tactic(auto, unfolding(crate::specs::Requests::request_of))]
     pub fn of(
         alloc: Global,
         address: &Address,
@@ -36,10 +35,33 @@ impl Request {
             limits.head_bytes ≡ capped (head_size address.now cells.now moment) → IsBatch limits waiting batch.now.letters →
             IfOk result (λ request. length (to_spelling request) ≤ limits.max_bytes) }
     {
+        Request::of_letters(
+            alloc,
+            address,
+            cells,
+            batch.letters.try_clone(alloc)?,
+            moment,
+        )
+    }
+
+    /// The same of a batch's letters, which are moved into it.
+    #[tactic(auto, unfolding(crate::specs::Requests::request_of))]
+    pub fn of_letters(
+        alloc: Global,
+        address: &Address,
+        cells: &Cells,
+        letters: List<Letter>,
+        moment: u64,
+    ) -> Mem<ToFunction>
+        ensures request { IfOk result (λ request. request ≡ request_of address.now cells.now moment letters) }
+        ensures within { (limits : Limits) (waiting : List Letter) → limits.max_bytes < 2 ^ 64 →
+            limits.head_bytes ≡ capped (head_size address.now cells.now moment) → IsBatch limits waiting letters →
+            IfOk result (λ request. length (to_spelling request) ≤ limits.max_bytes) }
+    {
         Ok(ToFunction::Invocation(InvocationBatchRequest {
             target: Some(address.try_clone(alloc)?),
             state: state_of(alloc, cells, moment)?,
-            invocations: invocations_of(alloc, batch.letters.as_slice())?,
+            invocations: invocations_of(alloc, letters)?,
         }))
     }
 }
@@ -59,25 +81,30 @@ fn state_of(alloc: Global, cells: &Cells, moment: u64) -> Mem<List<PersistedValu
     Ok(state)
 }
 
-fn invocation_of(alloc: Global, letter: &Letter) -> Mem<BatchInvocation>
-    ensures { IfOk result (λ made. made ≡ invocation_of letter.now) }
+fn invocation_of(letter: Letter) -> BatchInvocation
+    ensures { result ≡ invocation_of letter }
 {
-    let caller = match &letter.sender {
+    let Letter {
+        sender,
+        argument,
+        ..
+    } = letter;
+    let caller = match sender {
         Sender::Split(_) => None,
-        Sender::Function(address) => Some(address.try_clone(alloc)?),
+        Sender::Function(address) => Some(address),
     };
-    Ok(BatchInvocation {
+    BatchInvocation {
         caller,
-        argument: Some(letter.argument.try_clone(alloc)?),
-    })
+        argument: Some(argument),
+    }
 }
 
-fn invocations_of(alloc: Global, letters: &[Letter]) -> Mem<List<BatchInvocation>>
-    ensures { IfOk result (λ list. list ≡ map invocation_of letters.now) }
+fn invocations_of(alloc: Global, letters: List<Letter>) -> Mem<List<BatchInvocation>>
+    ensures { IfOk result (λ list. list ≡ map invocation_of letters) }
 {
     let mut list = List::new(alloc);
-    for letter in letters {
-        list.push(invocation_of(alloc, letter)?)?;
+    for letter in letters.into_vec() {
+        list.push(invocation_of(letter))?;
     }
     Ok(list)
 }

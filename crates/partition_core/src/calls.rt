@@ -18,7 +18,7 @@ use batch_queue::{BatchFault, Limits, Mail};
 use delayed_messages::Delays;
 use invocation::{Effects, Judged, Request, head_bytes, judge};
 use proto_wire::{List, Mem, OutOfMemory, TryClone};
-use request_reply::{Batch, encode_to};
+use request_reply::encode_to;
 use run_record::{Reply, change_delays};
 use state_cells::Cells;
 use std::alloc::Global;
@@ -98,7 +98,7 @@ impl Partition {
         let Some(batch) = self.mail.open_batch(address, &limits)? else {
             return Ok(None);
         };
-        let opening = opened_of(self.alloc, address, cells, &batch, moment)?;
+        let opening = opened_of(self.alloc, address, cells, batch.letters, moment)?;
         Ok(Some(opening))
     }
 
@@ -213,20 +213,21 @@ fn limits_of(max_letters: u32, max_bytes: u64, head_bytes: u64) -> Limits
     }
 }
 
-/// The senders of a batch, and its request to an address with such cells.
+/// The senders of a batch's letters, and their request to an address with such cells.
 fn opened_of(
     alloc: Global,
     address: &Address,
     cells: &Cells,
-    batch: &Batch,
+    letters: List<Letter>,
     moment: u64,
 ) -> Mem<Opened>
-    ensures picks { IfOk result (λ opening. opening.picks ≡ map sender_of batch.now.letters) }
-    ensures request { IfOk result (λ opening. opening.request ≡ request_bytes address.now cells.now moment batch.now.letters) }
+    ensures picks { IfOk result (λ opening. opening.picks ≡ map sender_of letters) }
+    ensures request { IfOk result (λ opening. opening.request ≡ request_bytes address.now cells.now moment letters) }
 {
-    let request = Request::of(alloc, address, cells, batch, moment)?;
+    let picks = senders_of(alloc, letters.as_slice())?;
+    let request = Request::of_letters(alloc, address, cells, letters, moment)?;
     Ok(Opened {
-        picks: senders_of(alloc, batch.letters.as_slice())?,
+        picks,
         request: encode_to(alloc, &request)?,
     })
 }

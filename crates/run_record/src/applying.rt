@@ -14,7 +14,7 @@ use crate::requesting::judged_reply;
 use crate::{Entry, Reply, Step};
 use address_routing::{IngressSpec, Routes};
 use invocation::Judged;
-use proto_wire::Mem;
+use proto_wire::{Mem, TryClone};
 use sf_outside::IngressRecord;
 use std::alloc::Global;
 use typed_values::Address;
@@ -54,7 +54,7 @@ fn apply_take(
     let Some(found) = taken else {
         return Ok(false);
     };
-    take_record(alloc, machine, routes, split, found)?;
+    take_record(alloc, machine, routes, split, found.try_clone(alloc)?)?;
     Ok(true)
 }
 

@@ -49,12 +49,12 @@ pub(crate) fn take_record(
     machine: &mut Machine,
     routes: &Routes,
     split: u32,
-    found: &IngressRecord,
+    found: IngressRecord,
 ) -> Mem<()>
     requires inside { split < splits_in routes.now.ingresses }
     requires short { ((state_of machine.old).own (Split split)).taken < 2 ^ 63 }
     ensures ok { OnOk result (state_of machine.new ≡
-        acted (Take split) (took routes.now split ((state_of machine.old).own (Split split)) found.now) (state_of machine.old)) }
+        acted (Take split) (took routes.now split ((state_of machine.old).own (Split split)) found) (state_of machine.old)) }
     ensures err { OnErr result (state_of machine.new ≡ state_of machine.old) }
 {
     let letters = letters_of(alloc, routes, split, found)?;

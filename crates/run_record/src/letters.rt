@@ -16,10 +16,10 @@ pub fn letters_of(
     alloc: Global,
     routes: &Routes,
     split: u32,
-    taken: &IngressRecord,
+    taken: IngressRecord,
 ) -> Mem<List<Letter>>
     requires { split < splits_in routes.now.ingresses }
-    ensures { IfOk result (λ letters. letters ≡ letters_of routes.now split taken.now) }
+    ensures { IfOk result (λ letters. letters ≡ letters_of routes.now split taken) }
 {
     let ingress = routes.ingress_of(split);
     letters_to(
@@ -31,24 +31,25 @@ pub fn letters_of(
     )
 }
 
-/// A record as the letter to one target.
+/// A record as the letter to one target. Its key and its value are moved.
 fn letter_to(
     alloc: Global,
     split: u32,
     value_type: &Text,
-    taken: &IngressRecord,
+    taken: IngressRecord,
     target: &TypeName,
 ) -> Mem<Letter>
-    ensures { IfOk result (λ letter. letter ≡ letter_of split value_type.now taken.now target.now) }
+    ensures { IfOk result (λ letter. letter ≡ letter_of split value_type.now taken target.now) }
 {
+    let IngressRecord { key, value } = taken;
     let address = Address {
         kind: target.try_clone(alloc)?,
-        id: taken.key.try_clone(alloc)?,
+        id: key,
     };
     let argument = TypedValue {
         typename: value_type.try_clone(alloc)?,
         has_value: true,
-        value: taken.value.try_clone(alloc)?,
+        value,
     };
     Ok(Letter {
         sender: Sender::Split(split),
@@ -57,19 +58,24 @@ fn letter_to(
     })
 }
 
+/// A record as the letters to some targets. The last one takes it; the others have copies.
 fn letters_to(
     alloc: Global,
     split: u32,
     value_type: &Text,
-    taken: &IngressRecord,
+    taken: IngressRecord,
     targets: &[TypeName],
 ) -> Mem<List<Letter>>
-    ensures { IfOk result (λ letters. letters ≡ map (letter_of split value_type.now taken.now) targets.now) }
+    ensures { IfOk result (λ letters. letters ≡ map (letter_of split value_type.now taken) targets.now) }
 {
     let mut letters = List::new(alloc);
-    for target in targets {
-        letters.push(letter_to(alloc, split, value_type, taken, target)?)?;
+    let Some((last, others)) = targets.split_last() else {
+        return Ok(letters);
+    };
+    for target in others {
+        letters.push(letter_to(alloc, split, value_type, taken.try_clone(alloc)?, target)?)?;
     }
+    letters.push(letter_to(alloc, split, value_type, taken, last)?)?;
     Ok(letters)
 }
 

@@ -83,11 +83,11 @@ impl Progress {
     }
 
     /// Takes a record of a split. An `Err` leaves the record of the steps as it was.
-    fn take(&mut self, alloc: Global, job: &Job, split: u32, found: &IngressRecord) -> Mem<()>
+    fn take(&mut self, alloc: Global, job: &Job, split: u32, found: IngressRecord) -> Mem<()>
         requires split { split < job.now.splits }
         requires counts { vec_len self.old.counts ≡ job.now.splits }
         requires short { get_or self.old.counts.items split 0 < 2 ^ 63 }
-        ensures ok { OnOk result (here self.new ≡ take_record job.now.routes split found.now (here self.old)) }
+        ensures ok { OnOk result (here self.new ≡ take_record job.now.routes split found (here self.old)) }
         ensures err { OnErr result (self.new.entries ≡ self.old.entries) }
         ensures counts { vec_len self.new.counts ≡ vec_len self.old.counts }
         ensures calls { self.new.calls ≡ self.old.calls }
@@ -128,7 +128,7 @@ impl Progress {
                     size,
                 });
             }
-            self.take(alloc, job, split, &found)?;
+            self.take(alloc, job, split, found)?;
         }
         self.left = true;
         Ok(())

@@ -1,4 +1,4 @@
-use Rattle.std.proofs.Common.{◌∙◌, sym, ap, subst, Option, nat_lt, ltb-true}
+use Rattle.std.proofs.Common.{◌∙◌, sym, ap, subst, Option, Some, nat_lt, ltb-true}
 use Rattle.std.specs.Option.{option_copied}
 use Rattle.sf_outside.specs.declared.ingress.IngressRecord.{IngressRecord}
 use Rattle.address_routing.specs.declared.module.Module.{Module}
@@ -31,15 +31,15 @@ returns-in_default-clause-state c =
 pub returns-clause-allowed : goal.returns-clause-allowed
 returns-clause-allowed c =
     let st = state_of c.args.machine.now in
-    (subst (λ (o : Option IngressRecord). IsDone c.args.routes.now o st (state_of c.take_record.new.machine) (Take c.args.split)) (sym (ap option_copied c.in-Some.is))
-    (take_done c.args.routes.now c.in-Some.found.now st (state_of c.take_record.new.machine) c.args.split
+    (subst (λ (o : Option IngressRecord). IsDone c.args.routes.now o st (state_of c.take_record.new.machine) (Take c.args.split)) (ap Some c.in_ok-try_clone.ensures ∙ sym (ap option_copied c.in-Some.is))
+    (take_done c.args.routes.now c.in_ok-try_clone.field-0 st (state_of c.take_record.new.machine) c.args.split
     (ltb-true c.args.split (splits_in c.args.routes.now.ingresses) (ap (λ (m : Module). nat_lt c.args.split (splits_in m.ingresses)) (sym c.module.ensures.value) ∙ ap (λ xs. nat_lt c.args.split (splits_in xs)) (sym c.as_slice.ensures) ∙ sym c.has_split.ensures ∙ c.if-not-has_split.false))
     c.in_ok-take_record.ensures.ok)).0
 
 pub returns-clause-state : goal.returns-clause-state
 returns-clause-state c =
     let st = state_of c.args.machine.now in
-    (subst (λ (o : Option IngressRecord). IsDone c.args.routes.now o st (state_of c.take_record.new.machine) (Take c.args.split)) (sym (ap option_copied c.in-Some.is))
-    (take_done c.args.routes.now c.in-Some.found.now st (state_of c.take_record.new.machine) c.args.split
+    (subst (λ (o : Option IngressRecord). IsDone c.args.routes.now o st (state_of c.take_record.new.machine) (Take c.args.split)) (ap Some c.in_ok-try_clone.ensures ∙ sym (ap option_copied c.in-Some.is))
+    (take_done c.args.routes.now c.in_ok-try_clone.field-0 st (state_of c.take_record.new.machine) c.args.split
     (ltb-true c.args.split (splits_in c.args.routes.now.ingresses) (ap (λ (m : Module). nat_lt c.args.split (splits_in m.ingresses)) (sym c.module.ensures.value) ∙ ap (λ xs. nat_lt c.args.split (splits_in xs)) (sym c.as_slice.ensures) ∙ sym c.has_split.ensures ∙ c.if-not-has_split.false))
     c.in_ok-take_record.ensures.ok)).1

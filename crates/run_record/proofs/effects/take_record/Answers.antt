@@ -27,7 +27,7 @@ unfolding state_of
 returns-clause-ok c =
     let old = c.args.machine.now in
     let new : Machine = record { taken = c.count_one.new.taken; parts = old.parts; mail = c.post.new.mail; egress = old.egress } in
-    let act = took c.args.routes.now c.args.split (own_by old.taken.items old.parts (Split c.args.split)) c.args.found.now in
+    let act = took c.args.routes.now c.args.split (own_by old.taken.items old.parts (Split c.args.split)) c.args.found in
     state_acted (Take c.args.split) act old new
     (own_taken c.args.split old.taken.items c.count_one.new.taken.items old.parts act (counted_from c.args.split old.taken.items c.reach.new.taken.items c.count_one.new.taken.items c.reach.ensures.same c.count_one.ensures) refl)
     (λ sender target.

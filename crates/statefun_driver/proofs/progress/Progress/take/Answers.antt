@@ -19,7 +19,7 @@ returns-clause-ok c =
     (ap (λ (n : ℕ). n + 1) (get_or_read items split c.index_mut.result.now (omega (arith, old.counts.ok.0, c.requires.split, c.requires.counts)) c.index_mut.ensures.value 0)) in
     let posted = c.in_ok-post.ensures ∙ ap (λ letters. with_posted letters (work_of old.partition)) c.in_ok-letters.ensures in
     on_ok_weaker c.note.result
-    (λ e. ap here e ∙ take_is c.args.job.now.routes split c.args.found.now (here old) (λ (other : ℕ). get_or (set items split more) other 0) (work_of c.post.new.self) _ counted posted refl)
+    (λ e. ap here e ∙ take_is c.args.job.now.routes split c.args.found (here old) (λ (other : ℕ). get_or (set items split more) other 0) (work_of c.post.new.self) _ counted posted refl)
     c.note.ensures.ok
 
 pub returns-clause-counts : goal.returns-clause-counts
