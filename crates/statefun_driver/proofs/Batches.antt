@@ -26,9 +26,10 @@ use Rattle.statefun_driver.specs.declared.end.Broken.TheVariants.{Memory}
 use Rattle.statefun_driver.specs.declared.end.End.{End}
 use Rattle.statefun_driver.specs.declared.end.End.TheVariants.{BatchTooLarge, Broke}
 use Rattle.statefun_driver.specs.Seen.{Seen}
-use Rattle.statefun_driver.specs.Traces.{Leads, Ends, IsFront}
+use Rattle.statefun_driver.specs.Traces.{Leads, Ends, IsFront, IsUnbroken}
 use Rattle.statefun_driver.proofs.Leading.{leads_none, ends_wanting}
 use Rattle.statefun_driver.proofs.Fronts.{front_same, open_entries}
+use Rattle.statefun_driver.proofs.Resting.{unbroken_rests, rest_open}
 use Rattle.statefun_driver.specs.Turns.{Plan, Control, Phase, Opening, Stopped, at, bounds_of, opening, opened, opened_by, open_batch}
 use Rattle.statefun_driver.specs.Work.{Led, flying, opening_at, IsAskedIn}
 
@@ -131,10 +132,10 @@ open_cells bounds address c batch work h = ap (λ (w : Work). w.cells) h.3
 
 -- ---- what it is asked for by
 
-pub asked_led : (plan : Plan) (a : Control) (o : Seen) (r : Result Asked End) (d : Control) (entries : List Entry) → a ≡ d → entries ≡ a.entries → IfErr r (λ end. end ≡ Broke Memory) → Led plan a o r d entries o
-asked_led plan a o (Ok asked) d entries e f h = subst (λ (x : Control). Leads plan a o x o) e (leads_none plan a o)
-asked_led plan a o (Err end) d entries e f h =
-    subst (λ (x : End). Ends plan a o entries x o) (sym h) (ends_wanting plan a o a entries o (leads_none plan a o) ([], sym f ∙ sym (append-nil entries)))
+pub asked_led : (plan : Plan) (a : Control) (o : Seen) (r : Result Asked End) (d : Control) (entries : List Entry) → IsUnbroken a.phase → a ≡ d → entries ≡ a.entries → IfErr r (λ end. end ≡ Broke Memory) → Led plan a o r d entries o
+asked_led plan a o (Ok asked) d entries u e f h = subst (λ (x : Control). Leads plan a o x o) e (leads_none plan a o)
+asked_led plan a o (Err end) d entries u e f h =
+    subst (λ (x : End). Ends plan a o entries x o) (sym h) (ends_wanting plan a o a entries o (leads_none plan a o) (u, ([], sym f ∙ sym (append-nil entries))))
 
 one_asked : (m : Module) (bounds : Bounds) (address : Address) (c : Control) (batch : Opened) (work : Work) (asked : Asked) → Opens bounds c.moment address c.work (Some batch) work
     → asked.address ≡ address → url_of m address.kind ≡ Some asked.url → asked.batch ≡ batch → IsAskedIn m address (with_work c work) asked
@@ -175,7 +176,7 @@ open_few_picks bounds address c batch work (Err end) h is = tt
 pub opening_wants : (plan : Plan) (address : Address) (most : ℕ) (c : Control) (o : Seen) → Ends plan (open_batch plan address most c) o c.entries (Broke Memory) o
 opening_wants plan address most c o =
     ends_wanting plan (open_batch plan address most c) o (open_batch plan address most c) c.entries o (leads_none plan (open_batch plan address most c) o)
-    (subst (IsFront c.entries) (sym (open_entries plan address most c)) (front_same c.entries))
+    (rest_open IsUnbroken unbroken_rests plan address most c, subst (IsFront c.entries) (sym (open_entries plan address most c)) (front_same c.entries))
 
 pub opening_fails : (plan : Plan) (address : Address) (most : ℕ) (endpoint : Endpoint) (c : Control) (o : Seen) → endpoint_of plan.routes address.kind ≡ Some endpoint → most ≤ endpoint.max_letters → (whose : Address) → whose ≡ address → (size limit : ℕ)
     → IsTooLarge (asked_bounds endpoint most) c.moment address c.work (TooLarge size limit) → Ends plan (open_batch plan address most c) o c.entries (BatchTooLarge whose size limit) o

@@ -1,5 +1,5 @@
 -- Why a run ends, and that it is complete.
-use Rattle.std.proofs.Common.{◌≡◌, ◌∙◌, refl, sym, ap, subst, ℕ, ◌+◌, ◌≤◌, List, [], ◌∷◌, length, Bool, true, false, cond, ◌⊎◌, inl, inr, Option, Some, None, arith, nat_lt, nat_le, leb-false}
+use Rattle.std.proofs.Common.{◌≡◌, ◌↔◌, ◌∙◌, refl, sym, ap, subst, ℕ, ◌+◌, ◌≤◌, List, [], ◌∷◌, length, Bool, true, false, cond, ◌⊎◌, inl, inr, Option, Some, None, arith, nat_lt, nat_le, leb-false}
 use Rattle.std.specs.Prelude.{max}
 use Rattle.sf_outside.specs.Told.{Rose}
 use Rattle.sf_outside.specs.declared.call.Answered.{Answered}
@@ -13,30 +13,18 @@ use Rattle.statefun_driver.specs.declared.end.End.TheVariants.{Done, TurnsSpent,
 use Rattle.statefun_driver.specs.Seen.{Event, Read, Now, Start, Poll, Fails, Seen, Hears, HearsFail}
 use Rattle.statefun_driver.specs.Turns.{Plan, Control, Phase, Reading, Asking, Opening, Waiting, Stopped, Asked, Came, Answers, Failed, IsAsked, goes_on, take_record, size_of, longest}
 use Rattle.statefun_driver.specs.Turns.{own_part, came, with_reason, attempts_at, patience_at}
-use Rattle.statefun_driver.specs.Traces.{Trace, IsEnd}
-use Rattle.statefun_driver.specs.Runs.{AreCalm, AreCalmBy, IsCauseOf, IsServedBy, IsServed, IsRoomy, AreServed, IsComplete, NoneRose}
-use Rattle.statefun_driver.proofs.Resting.{Rests, rest_finish, rest_open, rest_read, rest_read_on}
+use Rattle.statefun_driver.specs.Traces.{Trace, IsEnd, IsUnbroken}
+use Rattle.statefun_driver.specs.Runs.{AreCalm, IsCauseOf, IsServedBy, IsServed, IsRoomy, AreServed, IsComplete, NoneRose}
+use Rattle.statefun_driver.proofs.Resting.{Rests, unbroken_rests, tried_unbroken, rest_finish, rest_open, rest_read, rest_read_on}
 use Rattle.statefun_driver.proofs.Moving.{Moved, BrokeOff, ReadNone, ReadLarge, Took, SawMoment, Began, PolledNone, FailedBy, Accepts, Misses, accepted, missed}
 use Rattle.statefun_driver.proofs.Standing.{Laws, IsFit, IsSound, Stands}
 use Rattle.statefun_driver.proofs.Ways.{moved, sound_next}
 
 -- ---- the counts of faults
 
--- no object broke the run off
-abbrev pub IsUnbroken : Phase → Type 0
-IsUnbroken (Stopped (Broke by)) = ⊥
-IsUnbroken phase = Unit {0}
-
-pub unbroken_rests : Rests IsUnbroken
-unbroken_rests = record { asking = tt; reading = λ split count. tt; opening = λ batch. tt; done = λ taken. tt; spent = λ taken. tt; large = λ address size limit. tt }
-
 abbrev is_fail : Event → Bool
 is_fail (Fails by) = true
 is_fail event = false
-
-tried_unbroken : (batch : Asked) (t : Bool) → IsUnbroken (cond t (Opening batch) (Stopped (EndpointFailed batch.address batch.reasons)))
-tried_unbroken batch true = tt
-tried_unbroken batch false = tt
 
 unbroken_one : (plan : Plan) (c : Control) (event : Event) (d : Control) → Moved plan c event d → is_fail event ≡ false → IsUnbroken d.phase
 unbroken_one plan c _ _ (BrokeOff by) h = absurd (let k : true ≡ false = h in cc)
@@ -46,37 +34,40 @@ unbroken_one plan c _ _ (Took split count offset found e is) h = rest_read_on Is
 unbroken_one plan c _ _ (SawMoment moment e) h = rest_read IsUnbroken unbroken_rests plan 0 (record c { moment = max c.moment moment })
 unbroken_one plan c _ _ (Began batch url request e place is) h = tt
 unbroken_one plan c _ _ (PolledNone batch call k outcome e) h = tt
-unbroken_one plan c _ _ (FailedBy batch call k outcome why e is late) h = tried_unbroken (with_reason batch why) (nat_lt (length (with_reason batch why).reasons) (attempts_at plan.routes batch.address))
+unbroken_one plan c _ _ (FailedBy batch call k outcome why e is late) h = tried_unbroken plan.routes (with_reason batch why)
 unbroken_one plan c _ _ (Accepts batch call k outcome answer effects e own is) h = rest_finish IsUnbroken unbroken_rests plan (accepted plan batch call answer effects c)
 unbroken_one plan c _ _ (Misses batch call k outcome answer specs e own is) h = rest_open IsUnbroken unbroken_rests plan batch.address (length batch.letters) (missed plan batch call answer specs c)
 
 abbrev pub Caused : Seen → Seen → Phase → Type 0
-Caused before now (Stopped end) = IsCauseOf (Stopped end) before now end
+Caused before now (Stopped end) = IsCauseOf before now end
 Caused before now phase = AreCalm before now
 
 calm_then : (a b c : Seen) → AreCalm a b → AreCalm b c → AreCalm a c
 calm_then a b c h k = (k.0 ∙ h.0, k.1 ∙ h.1)
 
-calm_asked : (m : Module) (before now : Seen) (phase : Phase) (c : Control) (event : Event) → IsAsked m phase c event → Caused before now phase → AreCalm before now
-calm_asked m before now Asking c event asked h = h
-calm_asked m before now (Reading split count) c event asked h = h
-calm_asked m before now (Opening batch) c event asked h = h
-calm_asked m before now (Waiting batch call k) c event asked h = h
-calm_asked m before now (Stopped end) c event asked h = absurd asked
+-- where no object broke the run off both counts stand, and no more is said
+calm_caused : (before now : Seen) (phase : Phase) → IsUnbroken phase → Caused before now phase ↔ AreCalm before now
+calm_caused before now Asking u = (λ h. h, λ h. h)
+calm_caused before now (Reading split count) u = (λ h. h, λ h. h)
+calm_caused before now (Opening batch) u = (λ h. h, λ h. h)
+calm_caused before now (Waiting batch call k) u = (λ h. h, λ h. h)
+calm_caused before now (Stopped (Done taken)) u = (λ h. h, λ h. h)
+calm_caused before now (Stopped (TurnsSpent taken)) u = (λ h. h, λ h. h)
+calm_caused before now (Stopped (RecordTooLarge split offset size)) u = (λ h. h, λ h. h)
+calm_caused before now (Stopped (BatchTooLarge address size limit)) u = (λ h. h, λ h. h)
+calm_caused before now (Stopped (EndpointFailed address reasons)) u = (λ h. h, λ h. h)
+calm_caused before now (Stopped (Broke Ingress)) u = absurd u
+calm_caused before now (Stopped (Broke Link)) u = absurd u
+calm_caused before now (Stopped (Broke Memory)) u = (λ h. h, λ h. h)
 
-calm_caused : (before now : Seen) (phase : Phase) → IsUnbroken phase → AreCalm before now → Caused before now phase
-calm_caused before now Asking u h = h
-calm_caused before now (Reading split count) u h = h
-calm_caused before now (Opening batch) u h = h
-calm_caused before now (Waiting batch call k) u h = h
-calm_caused before now (Stopped (Done taken)) u h = h
-calm_caused before now (Stopped (TurnsSpent taken)) u h = h
-calm_caused before now (Stopped (RecordTooLarge split offset size)) u h = h
-calm_caused before now (Stopped (BatchTooLarge address size limit)) u h = h
-calm_caused before now (Stopped (EndpointFailed address reasons)) u h = h
-calm_caused before now (Stopped (Broke by)) u h = absurd u
+asked_unbroken : (m : Module) (phase : Phase) (c : Control) (event : Event) → IsAsked m phase c event → IsUnbroken phase
+asked_unbroken m Asking c event asked = tt
+asked_unbroken m (Reading split count) c event asked = tt
+asked_unbroken m (Opening batch) c event asked = tt
+asked_unbroken m (Waiting batch call k) c event asked = tt
+asked_unbroken m (Stopped end) c event asked = absurd asked
 
-broke_caused : (before o p : Seen) (by : Broken) → AreCalm before o → HearsFail by o p → IsCauseOf (Stopped (Broke by)) before p (Broke by)
+broke_caused : (before o p : Seen) (by : Broken) → AreCalm before o → HearsFail by o p → IsCauseOf before p (Broke by)
 broke_caused before o p Ingress h k = (subst (λ (n : ℕ). n ≤ p.ingress_faults) h.0 (k.cause).0, subst (λ (n : ℕ). Rose n p.ingress_faults) h.0 (k.cause).1, (k.cause).2 ∙ h.1)
 broke_caused before o p Link h k = ((k.cause).0 ∙ h.0, subst (λ (n : ℕ). n ≤ p.link_faults) h.1 (k.cause).1, subst (λ (n : ℕ). Rose n p.link_faults) h.1 (k.cause).2)
 broke_caused before o p Memory h k = calm_then before o p h k.cause
@@ -111,10 +102,10 @@ pub caused_one : (plan : Plan) (before : Seen) (c : Control) (o : Seen) (event :
 caused_one plan before c o event x p asked m heard h = by (by_event event o p heard)
   where
     calm : AreCalm before o
-    calm = calm_asked plan.routes before o c.phase c event asked h
+    calm = (calm_caused before o c.phase (asked_unbroken plan.routes c.phase c event asked)).0 h
 
     by : ((is_fail event ≡ false) × AreCalm o p) ⊎ ((b : Broken) × (event ≡ Fails b) × HearsFail b o p) → Caused before p x.phase
-    by (inl k) = calm_caused before p x.phase (unbroken_one plan c event x m k.0) (calm_then before o p calm k.1)
+    by (inl k) = (calm_caused before p x.phase (unbroken_one plan c event x m k.0)).1 (calm_then before o p calm k.1)
     by (inr k) = subst (Caused before p) (sym (broke_off plan c event x k.0 k.1 m)) (broke_caused before o p k.0 calm k.2)
 
 -- ---- completeness
@@ -180,25 +171,11 @@ fine_along laws plan fit c o (event ∷ events) d q t s h f =
 
 -- ---- ends
 
-caused_end : (before now : Seen) (phase : Phase) (end : End) → phase ≡ Stopped end → Caused before now phase → IsCauseOf (Stopped end) before now end
+caused_end : (before now : Seen) (phase : Phase) (end : End) → phase ≡ Stopped end → Caused before now phase → IsCauseOf before now end
 caused_end before now phase end e h = subst (Caused before now) e h
 
-calm_by : (before now : Seen) (phase : Phase) → Caused before now phase → AreCalmBy phase before now
-calm_by before now Asking h = h
-calm_by before now (Reading split count) h = h
-calm_by before now (Opening batch) h = h
-calm_by before now (Waiting batch call k) h = h
-calm_by before now (Stopped (Done taken)) h = h
-calm_by before now (Stopped (TurnsSpent taken)) h = h
-calm_by before now (Stopped (RecordTooLarge split offset size)) h = h
-calm_by before now (Stopped (BatchTooLarge address size limit)) h = h
-calm_by before now (Stopped (EndpointFailed address reasons)) h = h
-calm_by before now (Stopped (Broke Ingress)) h = tt
-calm_by before now (Stopped (Broke Link)) h = tt
-calm_by before now (Stopped (Broke Memory)) h = h
-
-pub cause_is : (before now : Seen) (last : Control) (entries : List Entry) (end : End) → IsEnd last entries end → Caused before now last.phase → IsCauseOf last.phase before now end
-cause_is before now last entries (Broke Memory) e h = calm_by before now last.phase h
+pub cause_is : (before now : Seen) (last : Control) (entries : List Entry) (end : End) → IsEnd last entries end → Caused before now last.phase → IsCauseOf before now end
+cause_is before now last entries (Broke Memory) e h = (calm_caused before now last.phase e.0).0 h
 cause_is before now last entries (Broke Ingress) e h = caused_end before now last.phase (Broke Ingress) e.0 h
 cause_is before now last entries (Broke Link) e h = caused_end before now last.phase (Broke Link) e.0 h
 cause_is before now last entries (Done taken) e h = caused_end before now last.phase (Done taken) e.0 h
@@ -207,7 +184,7 @@ cause_is before now last entries (RecordTooLarge split offset size) e h = caused
 cause_is before now last entries (BatchTooLarge address size limit) e h = caused_end before now last.phase (BatchTooLarge address size limit) e.0 h
 cause_is before now last entries (EndpointFailed address reasons) e h = caused_end before now last.phase (EndpointFailed address reasons) e.0 h
 
-pub fine_end : (before now : Seen) (last : Control) (entries : List Entry) (end : End) → IsFine last.phase → IsEnd last entries end → IsCauseOf last.phase before now end → NoneRose before now → IsComplete end
+pub fine_end : (before now : Seen) (last : Control) (entries : List Entry) (end : End) → IsFine last.phase → IsEnd last entries end → IsCauseOf before now end → NoneRose before now → IsComplete end
 fine_end before now last entries (Done taken) f e k n = tt
 fine_end before now last entries (TurnsSpent taken) f e k n = tt
 fine_end before now last entries (Broke Memory) f e k n = tt

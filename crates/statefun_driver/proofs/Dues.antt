@@ -12,9 +12,10 @@ use Rattle.statefun_driver.specs.declared.end.End.TheVariants.{Broke}
 use Rattle.statefun_driver.specs.declared.end.Broken.TheVariants.{Memory}
 use Rattle.statefun_driver.specs.Seen.{Seen}
 use Rattle.statefun_driver.specs.Turns.{Plan, Control, dues, due_recorded, send_due, serve}
-use Rattle.statefun_driver.specs.Traces.{Leads, Ends, IsFront}
+use Rattle.statefun_driver.specs.Traces.{Leads, Ends, IsFront, IsUnbroken}
 use Rattle.statefun_driver.specs.Work.{IsSentFront}
 use Rattle.statefun_driver.proofs.Leading.{ends_wanting}
+use Rattle.statefun_driver.proofs.Resting.{unbroken_rests, rest_serve}
 use Rattle.statefun_driver.proofs.Fronts.{send_due_front, serve_entries}
 use Rattle.statefun_driver.proofs.Recorded.{due_is, sent_more, sent_none}
 
@@ -73,4 +74,4 @@ dues_sent plan a o c d p e leads = subst (λ (x : Control). Leads plan a o (serv
 pub dues_wanting : (plan : Plan) (a : Control) (o : Seen) (c : Control) (p : Seen) (entries : List Entry) → Leads plan a o (serve plan (send_due plan.routes dues c)) p → IsSentFront plan c entries → Ends plan a o entries (Broke Memory) p
 dues_wanting plan a o c p entries leads front =
     ends_wanting plan a o (serve plan (send_due plan.routes dues c)) entries p leads
-    (subst (λ (xs : List Entry). IsFront entries xs) (sym (serve_entries plan (send_due plan.routes dues c))) front)
+    (rest_serve IsUnbroken unbroken_rests plan (send_due plan.routes dues c), subst (λ (xs : List Entry). IsFront entries xs) (sym (serve_entries plan (send_due plan.routes dues c))) front)

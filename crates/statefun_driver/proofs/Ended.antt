@@ -20,7 +20,7 @@ use Rattle.statefun_driver.specs.declared.end.End.{End}
 use Rattle.statefun_driver.specs.declared.end.End.TheVariants.{Done, TurnsSpent, RecordTooLarge, BatchTooLarge, EndpointFailed, Broke}
 use Rattle.statefun_driver.specs.Seen.{Event, Read, Now, Start, Poll, Fails, Seen}
 use Rattle.statefun_driver.specs.Turns.{Plan, Control, Phase, Asking, Reading, Opening, Waiting, Stopped, IsAsked, first_control, goes_on, taken_in}
-use Rattle.statefun_driver.specs.Traces.{Trace, Ends, IsEnd, IsFront}
+use Rattle.statefun_driver.specs.Traces.{Trace, Ends, IsEnd, IsUnbroken, IsFront}
 use Rattle.statefun_driver.specs.Runs.{AreRead, Replays, HasState, IsFresh, IsBackedRun, AreTried, IsTooLarge, IsDelivered, IfDone, IsModest, AreModest, IsBoundedIn, AreBounded, IsRun}
 use Rattle.statefun_driver.specs.Laws.{EndsAreRuns}
 use Rattle.statefun_driver.proofs.Journal.{journal_is, are_read, read_one, grows_itself, grows_then, grows_one}
@@ -105,7 +105,7 @@ large_end plan last entries (BatchTooLarge address size limit) e s = subst (λ (
 large_end plan last entries (Broke by) e s = tt
 
 front_end : (last : Control) (entries : List Entry) (end : End) → IsEnd last entries end → IsFront entries last.entries
-front_end last entries (Broke Memory) e = e
+front_end last entries (Broke Memory) e = e.1
 front_end last entries (Broke Ingress) e = ([], sym e.1 ∙ sym (append-nil entries))
 front_end last entries (Broke Link) e = ([], sym e.1 ∙ sym (append-nil entries))
 front_end last entries (Done taken) e = ([], sym e.1 ∙ sym (append-nil entries))
@@ -211,7 +211,7 @@ module _ (laws : Laws) (egress : EgressIsOfAnswers) (plan : Plan) (fit : IsFit p
 
 -- memory may run out before anything is done
 pub at_once : (plan : Plan) (o : Seen) (entries : List Entry) → entries ≡ [] → Ends plan (first_control plan) o entries (Broke Memory) o
-at_once plan o entries none = record { last = first_control plan; leads = ([], (refl, refl)); is_end = ([], sym (append-nil entries ∙ none)) }
+at_once plan o entries none = record { last = first_control plan; leads = ([], (refl, refl)); is_end = (first_phase IsUnbroken plan tt (λ taken. tt), ([], sym (append-nil entries ∙ none))) }
 
 pub ends_are_runs : Laws → EgressIsOfAnswers → EndsAreRuns
 ends_are_runs laws egress plan before now entries end routable modest ends =

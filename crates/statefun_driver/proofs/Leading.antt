@@ -7,7 +7,7 @@ use Rattle.statefun_driver.specs.declared.end.End.{End}
 use Rattle.statefun_driver.specs.declared.end.End.TheVariants.{Broke}
 use Rattle.statefun_driver.specs.Seen.{Event, Fails, Seen, Hears, HearsFail}
 use Rattle.statefun_driver.specs.Turns.{Plan, Control, Phase, Reading, Asking, Opening, Waiting, Stopped, IsAsked, goes_on, at}
-use Rattle.statefun_driver.specs.Traces.{Trace, Leads, Ends, IsEnd, IsFront}
+use Rattle.statefun_driver.specs.Traces.{Trace, Leads, Ends, IsEnd}
 use Rattle.statefun_driver.specs.Work.{Led, LedBy}
 
 trace_then : (plan : Plan) (a : Control) (o : Seen) (events more : List Event) (b : Control) (p : Seen) (c : Control) (q : Seen) → Trace plan a o events b p → Trace plan b p more c q → Trace plan a o (events ++ more) c q
@@ -49,7 +49,7 @@ on_goes plan (Waiting batch call polls) c by h = refl
 broken_end : (c : Control) (by : Broken) → IsEnd (at (Stopped (Broke by)) c) c.entries (Broke by)
 broken_end c Ingress = (refl, refl)
 broken_end c Link = (refl, refl)
-broken_end c Memory = ([], sym (append-nil c.entries))
+broken_end c Memory = (tt, ([], sym (append-nil c.entries)))
 
 -- an object failed
 pub ends_failing : (plan : Plan) (a : Control) (o : Seen) (c : Control) (p : Seen) (by : Broken) (q : Seen) → Leads plan a o c p → IsOn c.phase → HearsFail by p q → Ends plan a o c.entries (Broke by) q
@@ -61,8 +61,8 @@ ends_failing plan a o c p by q h on heard = record {
 }
 
 -- memory ran out
-pub ends_wanting : (plan : Plan) (a : Control) (o : Seen) (c : Control) (entries : List Entry) (p : Seen) → Leads plan a o c p → IsFront entries c.entries → Ends plan a o entries (Broke Memory) p
-ends_wanting plan a o c entries p h front = record { last = c; leads = h; is_end = front }
+pub ends_wanting : (plan : Plan) (a : Control) (o : Seen) (c : Control) (entries : List Entry) (p : Seen) → Leads plan a o c p → IsEnd c entries (Broke Memory) → Ends plan a o entries (Broke Memory) p
+ends_wanting plan a o c entries p h is_end = record { last = c; leads = h; is_end = is_end }
 
 pub led_then : {A : Type 0} (plan : Plan) (a : Control) (o : Seen) (b : Control) (p : Seen) (r : Result A End) (c : Control) (entries : List Entry) (q : Seen) → Leads plan a o b p → Led plan b p r c entries q → Led plan a o r c entries q
 led_then plan a o b p (Ok x) c entries q h k = leads_then plan a o b p c q h k

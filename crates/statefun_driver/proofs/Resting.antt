@@ -1,15 +1,17 @@
 -- Phases that the turns come to by themselves.
-use Rattle.std.proofs.Common.{ℕ, ◌+◌, List, [], ◌∷◌, Bool, true, false, cond, slice_get, Option, Some, None, nat_lt}
+use Rattle.std.proofs.Common.{ℕ, ◌+◌, List, [], ◌∷◌, length, Bool, true, false, cond, slice_get, Option, Some, None, nat_lt}
 use Rattle.std.specs.Prelude.{◌^◌}
 use Rattle.typed_values.specs.declared.address.Address.{Address}
 use Rattle.typed_values.specs.declared.letter.Letter.{Letter}
+use Rattle.address_routing.specs.declared.module.Module.{Module}
 use Rattle.address_routing.specs.declared.module.Endpoint.{Endpoint}
 use Rattle.address_routing.specs.Routing.{splits_in, endpoint_of}
 use Rattle.partition_core.specs.declared.bounds.Bounds.{Bounds}
 use Rattle.partition_core.specs.Batches.{batch_at}
-use Rattle.statefun_driver.specs.declared.end.End.TheVariants.{Done, TurnsSpent, BatchTooLarge}
+use Rattle.statefun_driver.specs.declared.end.End.TheVariants.{Done, TurnsSpent, BatchTooLarge, EndpointFailed}
 use Rattle.statefun_driver.specs.Turns.{Plan, Control, Phase, Reading, Asking, Opening, Stopped, Asked, at, quota, dues}
-use Rattle.statefun_driver.specs.Turns.{taken_in, is_done, finish, opening, bounds_of, opened_by, open_batch, serve_first, serve, send_due, read_from, read_on}
+use Rattle.statefun_driver.specs.Turns.{taken_in, is_done, finish, opening, bounds_of, opened_by, open_batch, serve_first, serve, send_due, read_from, read_on, attempts_at, tried_phase}
+use Rattle.statefun_driver.specs.Traces.{IsUnbroken}
 
 pub record Rests (F : Phase → Type 0) : Type 0 where
   pub asking : F Asking
@@ -18,6 +20,16 @@ pub record Rests (F : Phase → Type 0) : Type 0 where
   pub done : (taken : ℕ) → F (Stopped (Done taken))
   pub spent : (taken : ℕ) → F (Stopped (TurnsSpent taken))
   pub large : (address : Address) (size limit : ℕ) → F (Stopped (BatchTooLarge address size limit))
+
+pub unbroken_rests : Rests IsUnbroken
+unbroken_rests = record { asking = tt; reading = λ split count. tt; opening = λ batch. tt; done = λ taken. tt; spent = λ taken. tt; large = λ address size limit. tt }
+
+pub tried_unbroken : (m : Module) (batch : Asked) → IsUnbroken (tried_phase m batch)
+tried_unbroken m batch = by (nat_lt (length batch.reasons) (attempts_at m batch.address))
+  where
+    by : (t : Bool) → IsUnbroken (cond t (Opening batch) (Stopped (EndpointFailed batch.address batch.reasons)))
+    by true = tt
+    by false = tt
 
 module _ (F : Phase → Type 0) (rests : Rests F) (plan : Plan) where
   pub rest_finish : (c : Control) → F (finish plan c).phase

@@ -10,10 +10,11 @@ use Rattle.statefun_driver.specs.declared.end.Broken.TheVariants.{Memory}
 use Rattle.statefun_driver.specs.declared.end.End.TheVariants.{Broke, RecordTooLarge}
 use Rattle.statefun_driver.specs.Seen.{Seen, Read, HearsRead, HearsFail}
 use Rattle.statefun_driver.specs.Turns.{Plan, Control, Reading, Stopped, at, quota, longest, dues, size_of, read_on, read, read_from, send_due, serve, take_record, recorded}
-use Rattle.statefun_driver.specs.Traces.{Leads, Ends, IsFront}
+use Rattle.statefun_driver.specs.Traces.{Leads, Ends, IsFront, IsUnbroken}
 use Rattle.statefun_driver.proofs.Leading.{leads_then, leads_one, ends_failing, ends_wanting}
 use Rattle.statefun_driver.proofs.Phases.{read_phase}
 use Rattle.statefun_driver.proofs.Fronts.{front_then, read_on_front}
+use Rattle.statefun_driver.proofs.Resting.{unbroken_rests, rest_read_on}
 
 -- so many records were taken of the split, and it is read on
 pub record Ready (plan : Plan) (a : Control) (o : Seen) (split k : ℕ) (c : Control) (p : Seen) : Type 0 where
@@ -94,7 +95,7 @@ pub row_wanting : (plan : Plan) (a : Control) (o : Seen) (split k : ℕ) (c : Co
 row_wanting plan a o split k c p found q h r size is small entries e =
     let next : Control = take_record plan.routes split found c in
     ends_wanting plan a o (read_on plan split (k + 1) next) entries q (row_within plan a o split k c p found q h r size is small)
-    (subst (λ (xs : List Entry). IsFront xs (read_on plan split (k + 1) next).entries) (sym e)
+    (rest_read_on IsUnbroken unbroken_rests plan split (k + 1) next, subst (λ (xs : List Entry). IsFront xs (read_on plan split (k + 1) next).entries) (sym e)
     (front_then c.entries next.entries (read_on plan split (k + 1) next).entries (taken_front plan split found c) (read_on_front plan split (k + 1) next)))
 
 -- the quota is spent

@@ -18,7 +18,7 @@ use Rattle.invocation.specs.declared.judging.Judged.TheVariants.{Accept, Registe
 use Rattle.invocation.specs.Judging.{judgement}
 use Rattle.run_record.specs.declared.entry.Entry.{Entry}
 use Rattle.run_record.specs.declared.entry.Step.TheVariants as step
-use Rattle.run_record.specs.Machine.{declared}
+use Rattle.run_record.specs.Machine.{served, declared}
 use Rattle.typed_values.specs.declared.letter.Sender.TheVariants.{Function}
 use Rattle.partition_core.specs.Kept.{work_of}
 use Rattle.statefun_driver.specs.declared.attempts.Asked.{Asked as Batch}
@@ -27,13 +27,15 @@ use Rattle.statefun_driver.specs.declared.progress.Progress.{Progress}
 use Rattle.statefun_driver.specs.declared.settled.Valid.{Valid}
 use Rattle.statefun_driver.specs.declared.settled.Valid.TheVariants.{Accepted, Missed}
 use Rattle.statefun_driver.specs.declared.end.End.{End}
-use Rattle.statefun_driver.specs.declared.end.End.TheVariants.{EndpointFailed}
+use Rattle.statefun_driver.specs.declared.end.End.TheVariants.{EndpointFailed, Broke}
+use Rattle.statefun_driver.specs.declared.end.Broken.TheVariants.{Memory}
 use Rattle.statefun_driver.specs.Seen.{Seen}
-use Rattle.statefun_driver.specs.Turns.{Plan, Control, Phase, Opening, Stopped, Asked, Came, Answers, Failed, at, recorded, own_now, reply_to, open_batch, came, came_of, settled, fated, attempts_at, patience_at, tried_phase}
-use Rattle.statefun_driver.specs.Traces.{Leads, Ends, IsFront}
+use Rattle.statefun_driver.specs.Turns.{Plan, Control, Phase, Opening, Stopped, Asked, Came, Answers, Failed, at, recorded, own_now, reply_to, open_batch, came, came_of, settled, fated, attempts_at, patience_at, tried_phase, with_reason}
+use Rattle.statefun_driver.specs.Traces.{Leads, Ends, IsEnd, IsFront, IsUnbroken}
 use Rattle.statefun_driver.specs.Work.{LedBy, IsAskedIn, flying, here, opening_at, replied, valid_as, came_as}
-use Rattle.statefun_driver.proofs.Leading.{leads_then, ends_then}
+use Rattle.statefun_driver.proofs.Leading.{leads_none, leads_then, ends_then, ends_wanting}
 use Rattle.statefun_driver.proofs.Fronts.{front_same, open_entries}
+use Rattle.statefun_driver.proofs.Resting.{unbroken_rests, tried_unbroken, rest_finish, rest_open}
 
 -- ---- parts of a run whose answer says where it goes on
 
@@ -101,23 +103,32 @@ tried_out plan a o address reasons c p leads none = record {
   is_end = (refl, refl);
 }
 
--- ---- the entries so far stand in front
+-- ---- memory may run out there, with the entries so far
 
-settled_front : (plan : Plan) (batch : Asked) (call : Call) (c : Control) (what : Came) → IsFront c.entries (settled plan batch call c what).entries
+settled_wants : (plan : Plan) (batch : Asked) (call : Call) (c : Control) (what : Came) → IsUnbroken c.phase → IsEnd (settled plan batch call c what) c.entries (Broke Memory)
 unfolding recorded
-settled_front plan batch call c (Failed why) = front_same c.entries
-settled_front plan batch call c (Answers answer (Accept effects)) = (_, refl)
-settled_front plan batch call c (Answers answer (Declare specs)) =
+settled_wants plan batch call c (Failed why) u = (tried_unbroken plan.routes (with_reason batch why), front_same c.entries)
+settled_wants plan batch call c (Answers answer (Accept effects)) u =
     let reply = reply_to batch call c answer in
-    let next : Control = recorded plan.routes (step.Register reply) (declared reply specs (own_now c (Function reply.address))) c in
-    subst (IsFront c.entries) (sym (open_entries plan batch.address (length batch.letters) next)) (_, refl)
-settled_front plan batch call c (Answers answer (Flaw flaw)) = front_same c.entries
+    (rest_finish IsUnbroken unbroken_rests plan (recorded plan.routes (step.Batch reply) (served reply effects (own_now c (Function reply.address))) c), (_, refl))
+settled_wants plan batch call c (Answers answer (Declare specs)) u =
+    let reply = reply_to batch call c answer in
+    let next : Control = recorded plan.routes (step.Register reply) (declared reply specs (own_now c (Function reply.address))) c in (
+      rest_open IsUnbroken unbroken_rests plan batch.address (length batch.letters) next,
+      subst (IsFront c.entries) (sym (open_entries plan batch.address (length batch.letters) next)) (_, refl),
+    )
+settled_wants plan batch call c (Answers answer (Flaw flaw)) u = (u, front_same c.entries)
 
-pub fated_front : (plan : Plan) (batch : Asked) (call : Call) (c : Control) (told : Option Answered) → IsFront c.entries (fated plan batch call c told).entries
-fated_front plan batch call c told = settled_front plan batch call c (came plan.routes c batch.address told)
+pub attempt_wants : (plan : Plan) (a : Control) (o : Seen) (address : Address) (reasons : List Reason) (call : Call) (c : Control) (p : Seen) (told : Option Answered) (d : Control) (q : Seen) → Tries plan a o address reasons c p → Attempted plan address reasons call c p told d q → IsUnbroken d.phase
+    → Ends plan a o d.entries (Broke Memory) q
+attempt_wants plan a o address reasons call c p told d q h k u =
+    let batch = flying address reasons d in
+    ends_wanting plan a o (fated plan batch call d told) d.entries q (attempt_made plan a o address reasons call c p told d q h k) (settled_wants plan batch call d (came plan.routes d address told) u)
 
-pub replied_front : (plan : Plan) (address : Address) (answer : Answer) (c : Control) → IsFront c.entries (replied plan address answer c).entries
-replied_front plan address answer c = settled_front plan (flying address [] c) answer.call c (valid_as answer.valid)
+pub replied_wants : (plan : Plan) (address : Address) (answer : Answer) (c : Control) (o : Seen) → IsUnbroken c.phase → Ends plan (replied plan address answer c) o c.entries (Broke Memory) o
+replied_wants plan address answer c o u =
+    let from = replied plan address answer c in
+    ends_wanting plan from o from c.entries o (leads_none plan from o) (settled_wants plan (flying address [] c) answer.call c (valid_as answer.valid) u)
 
 -- ---- only the number of calls changes
 

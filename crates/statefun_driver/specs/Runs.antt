@@ -75,18 +75,11 @@ pub record IsBackedRun (m : Module) (told : Lists) (exchanges : List Exchange) (
 abbrev pub AreCalm : Seen → Seen → Type 0
 AreCalm before now = (now.ingress_faults ≡ before.ingress_faults) × (now.link_faults ≡ before.link_faults)
 
--- Memory may run out at any moment, also when the turns have come to the failure of an object.
-abbrev pub AreCalmBy : Phase → Seen → Seen → Type 0
-AreCalmBy (Stopped (Broke Ingress)) before now = Unit {0}
-AreCalmBy (Stopped (Broke Link)) before now = Unit {0}
-AreCalmBy phase before now = AreCalm before now
-
 -- why a run ends so
-abbrev pub IsCauseOf : Phase → Seen → Seen → End → Type 0
-IsCauseOf phase before now (Broke Memory) = AreCalmBy phase before now
-IsCauseOf phase before now (Broke Ingress) = IsCause Ingress before now
-IsCauseOf phase before now (Broke Link) = IsCause Link before now
-IsCauseOf phase before now end = AreCalm before now
+abbrev pub IsCauseOf : Seen → Seen → End → Type 0
+IsCauseOf before now (Broke Ingress) = IsCause Ingress before now
+IsCauseOf before now (Broke Link) = IsCause Link before now
+IsCauseOf before now end = AreCalm before now
 
 -- the longest request that an endpoint takes
 abbrev pub most_bytes : Endpoint → ℕ
@@ -188,7 +181,7 @@ pub record IsRun (plan : Plan) (before now : Seen) (entries : List Entry) (end :
   pub replays : IfSome now.lists (λ told. Replays plan.routes told last × HasState plan.routes told entries)
   pub backed : IfSome now.lists (λ told. IfSome before.journal (λ done. IsFresh done → IsBackedRun plan.routes told now.exchanges entries))
   pub bounded : AreBounded plan (first_control plan) events
-  pub cause : IsCauseOf last.phase before now end
+  pub cause : IsCauseOf before now end
   pub tried : AreTried plan.routes end
   pub large : IsTooLarge plan.routes last end
   pub done : IfDone plan.routes before.lists last end

@@ -8,11 +8,12 @@ use Rattle.statefun_driver.specs.declared.end.End.{End}
 use Rattle.statefun_driver.specs.declared.end.End.TheVariants.{EndpointFailed}
 use Rattle.statefun_driver.specs.Traces.{Ends}
 use Rattle.statefun_driver.specs.declared.progress.Progress.{Progress}
-use Rattle.statefun_driver.specs.Turns.{attempts_at, at, fated, tried_phase}
+use Rattle.statefun_driver.specs.Turns.{attempts_at, at, tried_phase}
 use Rattle.statefun_driver.specs.Work.{IsTaken, came_as, flying, here, opening_at, plan_of}
 use Rattle.statefun_driver.proofs.Leading.{leads_none, ends_then, ends_wanting}
 use Rattle.statefun_driver.proofs.Fronts.{front_same}
-use Rattle.statefun_driver.proofs.Trying.{attempts_is, patience_is, tries, attempt_made, attempt_failed, attempt_answered, tried_out, fated_front, only_calls, asked_still, cells_still}
+use Rattle.statefun_driver.proofs.Resting.{tried_unbroken}
+use Rattle.statefun_driver.proofs.Trying.{attempts_is, patience_is, tries, attempt_failed, attempt_answered, tried_out, attempt_wants, only_calls, asked_still, cells_still}
 use Rattle.statefun_driver.proofs.Taking.{is_taken}
 use Rattle.statefun_driver.proofs.progress.Progress.exchange.Goals as goal
 
@@ -46,11 +47,8 @@ returns-in_err-reason-clause-led g c =
     let from = opening_at c.args.asked.now.address [] (here c.args.self.now) in
     let seen = g.O.Outside.seen c.args.outside.now in
     let call : Call = record { leg = c.loop.self.turn; partition = 0; turn = c.loop.self.calls } in
-    let batch = flying c.args.asked.now.address c.loop.reasons (here c.attempt.new.self) in
-    rw (p.1, p.2) (ends_wanting (plan_of c.args.job.now) from seen (fated (plan_of c.args.job.now) batch call (here c.attempt.new.self) c.in_ok-told.told) c.attempt.new.self.entries (g.O.Outside.seen c.attempt.new.outside)
-    (attempt_made (plan_of c.args.job.now) from seen c.args.asked.now.address c.loop.reasons (record { leg = c.loop.self.turn; partition = 0; turn = c.loop.self.calls }) (here c.loop.self) (g.O.Outside.seen c.loop.outside) c.in_ok-told.told (here c.attempt.new.self) (g.O.Outside.seen c.attempt.new.outside)
-    (record { leads = c.loop.invariant.leads; few = few }) (record { led = c.in_ok-told.ensures.led c.loop.reasons }))
-    (fated_front (plan_of c.args.job.now) batch call (here c.attempt.new.self) c.in_ok-told.told))
+    rw (p.1, p.2) (attempt_wants (plan_of c.args.job.now) from seen c.args.asked.now.address c.loop.reasons call (here c.loop.self) (g.O.Outside.seen c.loop.outside) c.in_ok-told.told (here c.attempt.new.self) (g.O.Outside.seen c.attempt.new.outside)
+    (record { leads = c.loop.invariant.leads; few = few }) (record { led = c.in_ok-told.ensures.led c.loop.reasons }) tt)
 
 pub returns-in_err-push-in-Err-clause-led : goal.returns-in_err-push-in-Err-clause-led
 unfolding here
@@ -61,11 +59,8 @@ returns-in_err-push-in-Err-clause-led g c =
     let from = opening_at c.args.asked.now.address [] (here c.args.self.now) in
     let seen = g.O.Outside.seen c.args.outside.now in
     let call : Call = record { leg = c.loop.self.turn; partition = 0; turn = c.loop.self.calls } in
-    let batch = flying c.args.asked.now.address c.loop.reasons (here c.attempt.new.self) in
-    rw (p.1, p.2) (ends_wanting (plan_of c.args.job.now) from seen (fated (plan_of c.args.job.now) batch call (here c.attempt.new.self) c.in_ok-told.told) c.attempt.new.self.entries (g.O.Outside.seen c.attempt.new.outside)
-    (attempt_made (plan_of c.args.job.now) from seen c.args.asked.now.address c.loop.reasons (record { leg = c.loop.self.turn; partition = 0; turn = c.loop.self.calls }) (here c.loop.self) (g.O.Outside.seen c.loop.outside) c.in_ok-told.told (here c.attempt.new.self) (g.O.Outside.seen c.attempt.new.outside)
-    (record { leads = c.loop.invariant.leads; few = few }) (record { led = c.in_ok-told.ensures.led c.loop.reasons }))
-    (fated_front (plan_of c.args.job.now) batch call (here c.attempt.new.self) c.in_ok-told.told))
+    rw (p.1, p.2) (attempt_wants (plan_of c.args.job.now) from seen c.args.asked.now.address c.loop.reasons call (here c.loop.self) (g.O.Outside.seen c.loop.outside) c.in_ok-told.told (here c.attempt.new.self) (g.O.Outside.seen c.attempt.new.outside)
+    (record { leads = c.loop.invariant.leads; few = few }) (record { led = c.in_ok-told.ensures.led c.loop.reasons }) tt)
 
 pub returns-in-Ok-clause-led : goal.returns-in-Ok-clause-led
 returns-in-Ok-clause-led g c =
@@ -105,7 +100,7 @@ returns-in_err-try_clone-clause-led g c =
     let p = err_from_is_err_and c.from_residual-in_err-try_clone.result c.from_residual-in_err-try_clone.ensures.1 in
     let last = at (tried_phase c.args.job.now.routes (flying c.args.asked.now.address c.loop.reasons (here c.loop.self))) (here c.loop.self) in
     rw (p.1, p.2) (ends_wanting (plan_of c.args.job.now) (opening_at c.args.asked.now.address [] (here c.args.self.now)) (g.O.Outside.seen c.args.outside.now) last c.loop.self.entries (g.O.Outside.seen c.loop.outside)
-    c.loop.invariant.leads (front_same c.loop.self.entries))
+    c.loop.invariant.leads (tried_unbroken c.args.job.now.routes (flying c.args.asked.now.address c.loop.reasons (here c.loop.self)), front_same c.loop.self.entries))
 
 pub returns-clause-led : goal.returns-clause-led
 unfolding here

@@ -6,7 +6,9 @@ use Rattle.partition_core.specs.Batches.{Opens, IsTooLarge}
 use Rattle.partition_core.specs.Kept.{work_of}
 use Rattle.statefun_driver.specs.Turns.{open_batch}
 use Rattle.statefun_driver.specs.Work.{here, opening_at, plan_of}
+use Rattle.statefun_driver.specs.Traces.{IsUnbroken}
 use Rattle.statefun_driver.proofs.Fronts.{open_entries}
+use Rattle.statefun_driver.proofs.Resting.{unbroken_rests, rest_open}
 use Rattle.statefun_driver.proofs.Batches.{asked_bounds, open_some, asked_led, open_asked, open_few_picks, open_cells, opening_wants, opening_fails, on_ok_of}
 use Rattle.statefun_driver.proofs.progress.Progress.open.Goals as goal
 
@@ -26,6 +28,7 @@ returns-in-Ok-Some-clause-led c seen =
     let from = open_batch plan c.args.address.now c.args.most (here old) in
     let h = subst (λ (o : Option Opened). Opens (asked_bounds c.args.endpoint.now c.args.most) old.moment c.args.address.now (work_of old.partition) o (work_of c.open.new.self)) c.in-Ok-Some.field-0-is c.in-Ok-Some.ensures.opens in
     asked_led plan from seen c.ask.result (opening_at c.args.address.now [] (here (record old { partition = c.open.new.self }))) old.entries
+    (rest_open IsUnbroken unbroken_rests plan c.args.address.now c.args.most (here old))
     (open_some plan c.args.address.now c.args.most c.args.endpoint.now (here old) c.requires.endpoint c.requires.most c.in-Ok-Some.batch (work_of c.open.new.self) h)
     (sym (open_entries plan c.args.address.now c.args.most (here old))) c.ask.ensures.err
 

@@ -5,10 +5,11 @@ use Rattle.batch_queue.specs.Post.{is_ready}
 use Rattle.partition_core.specs.Kept.{work_of}
 use Rattle.run_record.specs.declared.entry.Entry.{Entry}
 use Rattle.statefun_driver.specs.Turns.{Control, finish, open_batch, serve}
-use Rattle.statefun_driver.specs.Traces.{Leads, IsFront}
+use Rattle.statefun_driver.specs.Traces.{Leads, IsFront, IsUnbroken}
 use Rattle.statefun_driver.specs.Work.{IfAgain, GoesAgain, here, plan_of, served_on}
 use Rattle.statefun_driver.proofs.Leading.{leads_none, leads_then, ends_then, ends_wanting}
 use Rattle.statefun_driver.proofs.Fronts.{front_same, serve_entries}
+use Rattle.statefun_driver.proofs.Resting.{unbroken_rests, rest_serve}
 use Rattle.statefun_driver.proofs.Endpoints.{usable_some}
 use Rattle.statefun_driver.proofs.Serving.{serve_idle, serve_unserved, serve_opens, called_then}
 use Rattle.statefun_driver.proofs.progress.Progress.serve.Goals as goal
@@ -29,7 +30,7 @@ returns-in_err-address-clause-led g c =
     let old = here c.args.self.now in
     let seen = g.O.Outside.seen c.args.outside.now in
     rw (p.1, p.2) (ends_wanting plan (serve plan old) seen (serve plan old) old.entries seen (leads_none plan (serve plan old) seen)
-    (subst (IsFront old.entries) (sym (serve_entries plan old)) (front_same old.entries)))
+    (rest_serve IsUnbroken unbroken_rests plan old, subst (IsFront old.entries) (sym (serve_entries plan old)) (front_same old.entries)))
 
 pub returns-in_default-endpoint_for-clause-led : goal.returns-in_default-endpoint_for-clause-led
 unfolding here

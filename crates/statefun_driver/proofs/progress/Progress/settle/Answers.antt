@@ -11,8 +11,8 @@ use Rattle.statefun_driver.specs.declared.settled.Valid.{Valid}
 use Rattle.statefun_driver.specs.Turns.{Control, finish, open_batch}
 use Rattle.statefun_driver.specs.Traces.{Leads}
 use Rattle.statefun_driver.specs.Work.{GoesAgain, IsTaken, here, plan_of, replied}
-use Rattle.statefun_driver.proofs.Leading.{leads_none, ends_wanting}
-use Rattle.statefun_driver.proofs.Trying.{replied_front}
+use Rattle.statefun_driver.proofs.Leading.{leads_none}
+use Rattle.statefun_driver.proofs.Trying.{replied_wants}
 use Rattle.statefun_driver.proofs.Settling.{picks_count, some_flying, reply_is, batch_made, register_made, accepted_leads, missed_leads, goes_again}
 use Rattle.statefun_driver.proofs.progress.Progress.settle.Goals as goal
 
@@ -46,33 +46,25 @@ pub returns-in_err-_egress-in-Accepted-clause-led : goal.returns-in_err-_egress-
 unfolding here
 returns-in_err-_egress-in-Accepted-clause-led c seen =
     let p = err_from_is_err_and c.from_residual.result c.from_residual.ensures.1 in
-    let from = replied (plan_of c.args.job.now) c.args.asked.address c.args.answer (here c.args.self.now) in
-    rw (p.1, p.2) (ends_wanting (plan_of c.args.job.now) from seen from c.args.self.now.entries seen (leads_none (plan_of c.args.job.now) from seen)
-    (replied_front (plan_of c.args.job.now) c.args.asked.address c.args.answer (here c.args.self.now)))
+    rw (p.1, p.2) (replied_wants (plan_of c.args.job.now) c.args.asked.address c.args.answer (here c.args.self.now) seen tt)
 
 pub returns-in_err-note-in-Accepted-clause-led : goal.returns-in_err-note-in-Accepted-clause-led
 unfolding here
 returns-in_err-note-in-Accepted-clause-led c seen =
     let p = err_from_is_err_and c.from_residual-in_err-note-in-Accepted.result c.from_residual-in_err-note-in-Accepted.ensures.1 in
-    let from = replied (plan_of c.args.job.now) c.args.asked.address c.args.answer (here c.args.self.now) in
-    rw (p.1, p.2, c.in_err-note-in-Accepted.ensures.err) (ends_wanting (plan_of c.args.job.now) from seen from c.args.self.now.entries seen (leads_none (plan_of c.args.job.now) from seen)
-    (replied_front (plan_of c.args.job.now) c.args.asked.address c.args.answer (here c.args.self.now)))
+    rw (p.1, p.2, c.in_err-note-in-Accepted.ensures.err) (replied_wants (plan_of c.args.job.now) c.args.asked.address c.args.answer (here c.args.self.now) seen tt)
 
 pub returns-in_err-register-in-Missed-clause-led : goal.returns-in_err-register-in-Missed-clause-led
 unfolding here
 returns-in_err-register-in-Missed-clause-led c seen =
     let p = err_from_is_err_and c.from_residual-in_err-register-in-Missed.result c.from_residual-in_err-register-in-Missed.ensures.1 in
-    let from = replied (plan_of c.args.job.now) c.args.asked.address c.args.answer (here c.args.self.now) in
-    rw (p.1, p.2) (ends_wanting (plan_of c.args.job.now) from seen from c.args.self.now.entries seen (leads_none (plan_of c.args.job.now) from seen)
-    (replied_front (plan_of c.args.job.now) c.args.asked.address c.args.answer (here c.args.self.now)))
+    rw (p.1, p.2) (replied_wants (plan_of c.args.job.now) c.args.asked.address c.args.answer (here c.args.self.now) seen tt)
 
 pub returns-in_err-note-in-Missed-clause-led : goal.returns-in_err-note-in-Missed-clause-led
 unfolding here
 returns-in_err-note-in-Missed-clause-led c seen =
     let p = err_from_is_err_and c.from_residual-in_err-note-in-Missed.result c.from_residual-in_err-note-in-Missed.ensures.1 in
-    let from = replied (plan_of c.args.job.now) c.args.asked.address c.args.answer (here c.args.self.now) in
-    rw (p.1, p.2, c.in_err-note-in-Missed.ensures.err) (ends_wanting (plan_of c.args.job.now) from seen from c.args.self.now.entries seen (leads_none (plan_of c.args.job.now) from seen)
-    (replied_front (plan_of c.args.job.now) c.args.asked.address c.args.answer (here c.args.self.now)))
+    rw (p.1, p.2, c.in_err-note-in-Missed.ensures.err) (replied_wants (plan_of c.args.job.now) c.args.asked.address c.args.answer (here c.args.self.now) seen tt)
 
 pub returns-in-Accepted-clause-led : goal.returns-in-Accepted-clause-led
 unfolding here
