@@ -20,7 +20,7 @@ use Rattle.statefun_driver.specs.declared.end.End.TheVariants.{Broke}
 use Rattle.statefun_driver.specs.Seen.{Seen, Start, Poll, HearsStart, HearsPoll, HearsFail}
 use Rattle.statefun_driver.specs.Turns.{Plan, Control, Phase, Opening, Waiting, Asked, at, recorded, own_now, call_of, own_part, came_of, came, settled, reply_to, fated, wait, polled, patience_at, open_batch}
 use Rattle.statefun_driver.specs.Traces.{Leads, Ends}
-use Rattle.statefun_driver.proofs.Leading.{leads_none, leads_then, leads_one, ends_failing}
+use Rattle.statefun_driver.proofs.Leading.{leads_none, leads_on, ends_failing}
 use Rattle.statefun_driver.proofs.Phases.{open_phase}
 
 -- ---- what becomes of a call does not ask for the phase
@@ -67,8 +67,8 @@ pub record IsPoll (call : Call) (told : Option Answered) (p q : Seen) : Type 0 w
 
 poll_own : (plan : Plan) (a : Control) (o : Seen) (batch : Asked) (call : Call) (k : ℕ) (c : Control) (p : Seen) (told : Option Answered) (q : Seen) → Waits plan a o batch call k c p → IsPoll call told p q → Leads plan a o (polled plan batch call k (at (Waiting batch call k) c) told) q
 poll_own plan a o batch call k c p told q h r =
-    leads_then plan a o (at (Waiting batch call k) c) p (polled plan batch call k (at (Waiting batch call k) c) told) q (waits plan a o batch call k c p h)
-    (subst (λ (t : Option Answered). Leads plan (at (Waiting batch call k) c) p (polled plan batch call k (at (Waiting batch call k) c) t) q) (sym r.own) (leads_one plan (at (Waiting batch call k) c) p (Poll r.outcome) q tt r.heard))
+    subst (λ (t : Option Answered). Leads plan a o (polled plan batch call k (at (Waiting batch call k) c) t) q) (sym r.own)
+    (leads_on plan a o (at (Waiting batch call k) c) p (Poll r.outcome) q (waits plan a o batch call k c p h) tt r.heard)
 
 pub poll_told : (plan : Plan) (a : Control) (o : Seen) (batch : Asked) (call : Call) (k : ℕ) (c : Control) (p : Seen) (what : Answered) (q : Seen) → Waits plan a o batch call k c p → IsPoll call (Some what) p q → Leads plan a o (fated plan batch call c (Some what)) q
 poll_told plan a o batch call k c p what q h r = subst (λ (x : Control). Leads plan a o x q) (same_fate plan batch call (Waiting batch call k) c (Some what)) (poll_own plan a o batch call k c p (Some what) q h r)
@@ -93,4 +93,4 @@ pub record IsStart (plan : Plan) (batch : Asked) (call : Call) (c : Control) (o 
 pub call_started : (plan : Plan) (batch : Asked) (call : Call) (c : Control) (o p : Seen) → IsStart plan batch call c o p → Leads plan (at (Opening batch) c) o (wait plan batch call 0 (record c { calls = c.calls + 1 })) p
 call_started plan batch call c o p s =
     subst (λ (x : Control). Leads plan (at (Opening batch) c) o x p) (wait_phase plan batch call 0 (Opening batch) (record c { calls = c.calls + 1 }))
-    (leads_one plan (at (Opening batch) c) o (Start call s.url s.request) p (s.own, s.place, s.what) s.heard)
+    (leads_on plan (at (Opening batch) c) o (at (Opening batch) c) o (Start call s.url s.request) p (leads_none plan (at (Opening batch) c) o) (s.own, s.place, s.what) s.heard)

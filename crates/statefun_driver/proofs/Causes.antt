@@ -18,25 +18,9 @@ use Rattle.statefun_driver.specs.Runs.{AreCalm, IsCauseOf, IsServedBy, IsServed,
 use Rattle.statefun_driver.proofs.Resting.{Rests, unbroken_rests, tried_unbroken, rest_finish, rest_open, rest_read, rest_read_on}
 use Rattle.statefun_driver.proofs.Moving.{Moved, BrokeOff, ReadNone, ReadLarge, Took, SawMoment, Began, PolledNone, FailedBy, Accepts, Misses, accepted, missed}
 use Rattle.statefun_driver.proofs.Standing.{Laws, IsFit, IsSound, Stands}
-use Rattle.statefun_driver.proofs.Ways.{moved, sound_next}
+use Rattle.statefun_driver.proofs.Ways.{sound_next, backwards}
 
 -- ---- the counts of faults
-
-abbrev is_fail : Event → Bool
-is_fail (Fails by) = true
-is_fail event = false
-
-unbroken_one : (plan : Plan) (c : Control) (event : Event) (d : Control) → Moved plan c event d → is_fail event ≡ false → IsUnbroken d.phase
-unbroken_one plan c _ _ (BrokeOff by) h = absurd (let k : true ≡ false = h in cc)
-unbroken_one plan c _ _ (ReadNone split count offset e is) h = rest_read IsUnbroken unbroken_rests plan (split + 1) c
-unbroken_one plan c _ _ (ReadLarge split count offset found e large) h = tt
-unbroken_one plan c _ _ (Took split count offset found e is) h = rest_read_on IsUnbroken unbroken_rests plan split (count + 1) (take_record plan.routes split found c)
-unbroken_one plan c _ _ (SawMoment moment e) h = rest_read IsUnbroken unbroken_rests plan 0 (record c { moment = max c.moment moment })
-unbroken_one plan c _ _ (Began batch url request e place is) h = tt
-unbroken_one plan c _ _ (PolledNone batch call k outcome e) h = tt
-unbroken_one plan c _ _ (FailedBy batch call k outcome why e is late) h = tried_unbroken plan.routes (with_reason batch why)
-unbroken_one plan c _ _ (Accepts batch call k outcome answer effects e own is) h = rest_finish IsUnbroken unbroken_rests plan (accepted plan batch call answer effects c)
-unbroken_one plan c _ _ (Misses batch call k outcome answer specs e own is) h = rest_open IsUnbroken unbroken_rests plan batch.address (length batch.letters) (missed plan batch call answer specs c)
 
 abbrev pub Caused : Seen → Seen → Phase → Type 0
 Caused before now (Stopped end) = IsCauseOf before now end
@@ -72,41 +56,29 @@ broke_caused before o p Ingress h k = (subst (λ (n : ℕ). n ≤ p.ingress_faul
 broke_caused before o p Link h k = ((k.cause).0 ∙ h.0, subst (λ (n : ℕ). n ≤ p.link_faults) h.1 (k.cause).1, subst (λ (n : ℕ). Rose n p.link_faults) h.1 (k.cause).2)
 broke_caused before o p Memory h k = calm_then before o p h k.cause
 
--- an event is calm, or it is a failure
-by_event : (event : Event) (o p : Seen) → Hears event o p → ((is_fail event ≡ false) × AreCalm o p) ⊎ ((by : Broken) × (event ≡ Fails by) × HearsFail by o p)
-by_event (Read split offset found) o p h = inl (refl, (ap (λ (x : Seen). x.ingress_faults) h.others, ap (λ (x : Seen). x.link_faults) h.others))
-by_event (Now moment) o p h = inl (refl, (ap (λ (x : Seen). x.ingress_faults) h.others, ap (λ (x : Seen). x.link_faults) h.others))
-by_event (Start call url request) o p h = inl (refl, (ap (λ (x : Seen). x.ingress_faults) h.others, ap (λ (x : Seen). x.link_faults) h.others))
-by_event (Poll outcome) o p h = inl (refl, (ap (λ (x : Seen). x.ingress_faults) h.others, ap (λ (x : Seen). x.link_faults) h.others))
-by_event (Fails by) o p h = inr (by, refl, h)
+-- where what is seen is as it was, but for what does not count faults
+calm_on : (before o p r : Seen) → AreCalm before o → p ≡ r → AreCalm o r → AreCalm before p
+calm_on before o p r h e k = calm_then before o p h (subst (AreCalm o) (sym e) k)
 
-same_by : (a b : Broken) → Fails a ≡ Fails b → a ≡ b
-same_by a b h = cc
+still : (before p : Seen) (phase : Phase) → IsUnbroken phase → AreCalm before p → Caused before p phase
+still before p phase u h = (calm_caused before p phase u).1 h
 
-no_fail : (event : Event) (by : Broken) → is_fail event ≡ false → event ≡ Fails by → ⊥
-no_fail event by h e = absurd (let k : false ≡ true = sym h ∙ ap is_fail e in cc)
-
-broke_off : (plan : Plan) (c : Control) (event : Event) (x : Control) (by : Broken) → event ≡ Fails by → Moved plan c event x → x.phase ≡ Stopped (Broke by)
-broke_off plan c _ _ by e (BrokeOff other) = ap (λ (b : Broken). Stopped (Broke b)) (same_by other by e)
-broke_off plan c _ _ by e (ReadNone split count offset f is) = absurd (no_fail _ by refl e)
-broke_off plan c _ _ by e (ReadLarge split count offset found f large) = absurd (no_fail _ by refl e)
-broke_off plan c _ _ by e (Took split count offset found f is) = absurd (no_fail _ by refl e)
-broke_off plan c _ _ by e (SawMoment moment f) = absurd (no_fail _ by refl e)
-broke_off plan c _ _ by e (Began batch url request f place is) = absurd (no_fail _ by refl e)
-broke_off plan c _ _ by e (PolledNone batch call k outcome f) = absurd (no_fail _ by refl e)
-broke_off plan c _ _ by e (FailedBy batch call k outcome why f is late) = absurd (no_fail _ by refl e)
-broke_off plan c _ _ by e (Accepts batch call k outcome answer effects f own is) = absurd (no_fail _ by refl e)
-broke_off plan c _ _ by e (Misses batch call k outcome answer specs f own is) = absurd (no_fail _ by refl e)
+moved_caused : (plan : Plan) (before : Seen) (c : Control) (o : Seen) (event : Event) (x : Control) (p : Seen) → Moved plan c event x → Hears event o p → AreCalm before o → Caused before p x.phase
+moved_caused plan before c o _ _ p (BrokeOff by) k h = broke_caused before o p by h k
+moved_caused plan before c o _ _ p (ReadNone split count offset e is) k h = still before p _ (rest_read IsUnbroken unbroken_rests plan (split + 1) c) (calm_on before o p _ h k.others (refl, refl))
+moved_caused plan before c o _ _ p (ReadLarge split count offset found e large) k h = calm_on before o p _ h k.others (refl, refl)
+moved_caused plan before c o _ _ p (Took split count offset found e is) k h =
+    still before p _ (rest_read_on IsUnbroken unbroken_rests plan split (count + 1) (take_record plan.routes split found c)) (calm_on before o p _ h k.others (refl, refl))
+moved_caused plan before c o _ _ p (SawMoment moment e) k h = still before p _ (rest_read IsUnbroken unbroken_rests plan 0 (record c { moment = max c.moment moment })) (calm_on before o p _ h k.others (refl, refl))
+moved_caused plan before c o _ _ p (Began batch url request e place is) k h = calm_on before o p _ h k.others (refl, refl)
+moved_caused plan before c o _ _ p (PolledNone batch call n outcome e) k h = calm_on before o p _ h k.others (refl, refl)
+moved_caused plan before c o _ _ p (FailedBy batch call n outcome why e is late) k h = still before p _ (tried_unbroken plan.routes (with_reason batch why)) (calm_on before o p _ h k.others (refl, refl))
+moved_caused plan before c o _ _ p (Accepts batch call n outcome answer effects e own is) k h = still before p _ (rest_finish IsUnbroken unbroken_rests plan (accepted plan batch call answer effects c)) (calm_on before o p _ h k.others (refl, refl))
+moved_caused plan before c o _ _ p (Misses batch call n outcome answer specs e own is) k h =
+    still before p _ (rest_open IsUnbroken unbroken_rests plan batch.address (length batch.letters) (missed plan batch call answer specs c)) (calm_on before o p _ h k.others (refl, refl))
 
 pub caused_one : (plan : Plan) (before : Seen) (c : Control) (o : Seen) (event : Event) (x : Control) (p : Seen) → IsAsked plan.routes c.phase c event → Moved plan c event x → Hears event o p → Caused before o c.phase → Caused before p x.phase
-caused_one plan before c o event x p asked m heard h = by (by_event event o p heard)
-  where
-    calm : AreCalm before o
-    calm = (calm_caused before o c.phase (asked_unbroken plan.routes c.phase c event asked)).0 h
-
-    by : ((is_fail event ≡ false) × AreCalm o p) ⊎ ((b : Broken) × (event ≡ Fails b) × HearsFail b o p) → Caused before p x.phase
-    by (inl k) = (calm_caused before p x.phase (unbroken_one plan c event x m k.0)).1 (calm_then before o p calm k.1)
-    by (inr k) = subst (Caused before p) (sym (broke_off plan c event x k.0 k.1 m)) (broke_caused before o p k.0 calm k.2)
+caused_one plan before c o event x p asked m heard h = moved_caused plan before c o event x p m heard ((calm_caused before o c.phase (asked_unbroken plan.routes c.phase c event asked)).0 h)
 
 -- ---- completeness
 
@@ -163,11 +135,12 @@ fine_roomy plan c (Stopped (EndpointFailed address reasons)) p r s = p
 fine_roomy plan c (Stopped (Broke by)) p r s = tt
 
 pub fine_along : (laws : Laws) (plan : Plan) → IsFit plan.routes → (c : Control) (o : Seen) (events : List Event) (d : Control) (q : Seen) → Trace plan c o events d q → IsSound plan c → AreServed plan c events → IsFine c.phase → IsFine d.phase
-fine_along laws plan fit c o [] d q t s h f = subst (λ (x : Control). IsFine x.phase) t.0 f
-fine_along laws plan fit c o (event ∷ events) d q t s h f =
+fine_along laws plan fit c o events d q t s =
+    backwards laws plan fit d q (λ c o events. AreServed plan c events → IsFine c.phase → IsFine d.phase) (λ h f. f)
+    (λ c o event p events s asked m heard more h f.
     let next = goes_on plan c.phase c event in
-    let sound = sound_next laws plan fit c event s t.1 in
-    fine_along laws plan fit next t.0 events d q t.3 sound h.2 (fine_roomy plan next next.phase (passed_one plan c event next (moved plan c event s t.1) h.0) h.1 sound.stands)
+    more h.2 (fine_roomy plan next next.phase (passed_one plan c event next m h.0) h.1 (sound_next laws plan fit c event s asked).stands))
+    c o events t s
 
 -- ---- ends
 

@@ -25,7 +25,7 @@ use Rattle.statefun_driver.specs.Runs.{AreRead, Replays, HasState, IsFresh, IsBa
 use Rattle.statefun_driver.specs.Laws.{EndsAreRuns}
 use Rattle.statefun_driver.proofs.Journal.{journal_is, are_read, read_one, grows_itself, grows_then, grows_one}
 use Rattle.statefun_driver.proofs.Standing.{Laws, IsFit, IsSound, Stands}
-use Rattle.statefun_driver.proofs.Ways.{sound_next, sound_along, along}
+use Rattle.statefun_driver.proofs.Ways.{sound_along, backwards, along}
 use Rattle.statefun_driver.proofs.Causes.{Caused, caused_one, cause_is, IsFine, fine_along, fine_end}
 use Rattle.statefun_driver.proofs.Delivered.{WasRead, read_event, first_read, delivered}
 use Rattle.statefun_driver.proofs.Emptied.{AreKept, kept_event, kept_first, none_left}
@@ -135,9 +135,8 @@ bounded_one laws plan c (Opening batch) (Poll outcome) s asked = absurd asked
 bounded_one laws plan c (Opening batch) (Fails by) s asked = where_told (endpoint_of plan.routes batch.address.kind) (λ (e : Endpoint). Unit {0}) (λ e is. tt)
 
 bounded : (laws : Laws) (plan : Plan) → IsFit plan.routes → (c : Control) (o : Seen) (events : List Event) (d : Control) (q : Seen) → Trace plan c o events d q → IsSound plan c → AreBounded plan c events
-bounded laws plan fit c o [] d q t s = tt
-bounded laws plan fit c o (event ∷ events) d q t s =
-    (bounded_one laws plan c c.phase event s.stands t.1, bounded laws plan fit (goes_on plan c.phase c event) t.0 events d q t.3 (sound_next laws plan fit c event s t.1))
+bounded laws plan fit c o events d q t s =
+    backwards laws plan fit d q (λ c o events. AreBounded plan c events) tt (λ c o event p events s asked m heard more. (bounded_one laws plan c c.phase event s.stands asked, more)) c o events t s
 
 -- ---- all of it
 

@@ -1,5 +1,5 @@
 -- What an outside tells of a trace: its objects, its journal, and what was read.
-use Rattle.std.proofs.Common.{◌≡◌, ◌∙◌, sym, ap, subst, ℕ, zero, suc, List, [], ◌∷◌, ◌++◌, Option, Some, None}
+use Rattle.std.proofs.Common.{◌≡◌, ◌∙◌, refl, sym, ap, subst, ℕ, zero, suc, List, [], ◌∷◌, ◌++◌, Option, Some, None}
 use Rattle.std.specs.Prelude.{slice_get}
 use Rattle.std.proofs.lemmas.List.{append-nil, append_assoc}
 use Rattle.sf_outside.specs.Told.{more, more-nil, more-more}
@@ -8,9 +8,10 @@ use Rattle.sf_outside.specs.declared.ingress.IngressRecord.{IngressRecord}
 use Rattle.run_record.specs.declared.entry.Entry.{Entry}
 use Rattle.statefun_driver.specs.declared.end.End.{End}
 use Rattle.statefun_driver.specs.Seen.{Event, Read, Now, Start, Poll, Fails, Seen, Hears}
-use Rattle.statefun_driver.specs.Turns.{Plan, Control, goes_on}
-use Rattle.statefun_driver.specs.Traces.{Trace, Ends}
+use Rattle.statefun_driver.specs.Turns.{Plan, Control}
+use Rattle.statefun_driver.specs.Traces.{Trace, Ends, turns}
 use Rattle.statefun_driver.specs.Runs.{link_part, link_events, IsRead, AreRead}
+use Rattle.statefun_driver.proofs.Tracing.{backwards, along}
 
 -- ---- the objects
 
@@ -21,12 +22,9 @@ object_one (Start call url request) o p h = ap (λ (x : Seen). x.objects) h.othe
 object_one (Poll outcome) o p h = ap (λ (x : Seen). x.objects) h.others
 object_one (Fails by) o p h = ap (λ (x : Seen). x.objects) h.others
 
-pub objects_are : (plan : Plan) (c : Control) (o : Seen) (events : List Event) (d : Control) (q : Seen) → Trace plan c o events d q → q.objects ≡ o.objects
-objects_are plan c o [] d q t = ap (λ (x : Seen). x.objects) (sym t.1)
-objects_are plan c o (event ∷ events) d q t = objects_are plan (goes_on plan c.phase c event) t.0 events d q t.3 ∙ object_one event o t.0 t.2
-
 pub objects_stay : (plan : Plan) (c : Control) (o : Seen) (entries : List Entry) (end : End) (q : Seen) → Ends plan c o entries end q → q.objects ≡ o.objects
-objects_stay plan c o entries end q h = objects_are plan c o (h.leads).0 h.last q (h.leads).1
+objects_stay plan c o entries end q h =
+    along (turns plan) (λ c p. p.objects ≡ o.objects) (λ c p event r asked heard k. object_one event p r heard ∙ k) c o (h.leads).0 h.last q (h.leads).1 refl
 
 -- ---- the journal
 
@@ -38,11 +36,10 @@ journal_one (Poll outcome) o p h = ap (λ (x : Seen). x.journal) h.others
 journal_one (Fails by) o p h = ap (λ (x : Seen). x.journal) h.others ∙ sym (more-nil o.journal)
 
 pub journal_is : (plan : Plan) (c : Control) (o : Seen) (events : List Event) (d : Control) (q : Seen) → Trace plan c o events d q → q.journal ≡ more o.journal (link_events events)
-journal_is plan c o [] d q t = ap (λ (x : Seen). x.journal) (sym t.1) ∙ sym (more-nil o.journal)
-journal_is plan c o (event ∷ events) d q t =
-    journal_is plan (goes_on plan c.phase c event) t.0 events d q t.3
-    ∙ ap (λ told. more told (link_events events)) (journal_one event o t.0 t.2)
-    ∙ more-more o.journal (link_part event) (link_events events)
+journal_is plan c o events d q t =
+    backwards (turns plan) d q (λ c o events. q.journal ≡ more o.journal (link_events events)) (sym (more-nil q.journal))
+    (λ c o event p events asked heard h. h ∙ ap (λ told. more told (link_events events)) (journal_one event o p heard) ∙ more-more o.journal (link_part event) (link_events events))
+    c o events t
 
 -- ---- the lists
 
@@ -69,11 +66,6 @@ grows_one (Start call url request) o p h = same_lists o p (ap (λ (x : Seen). x.
 grows_one (Poll outcome) o p h = same_lists o p (ap (λ (x : Seen). x.lists) h.others)
 grows_one (Fails by) o p h = h.grows
 
-pub lists_grow : (plan : Plan) (c : Control) (o : Seen) (events : List Event) (d : Control) (q : Seen) → Trace plan c o events d q → Grows o.lists q.lists
-lists_grow plan c o [] d q t = subst (λ (x : Seen). Grows o.lists x.lists) t.1 (grows_itself o.lists)
-lists_grow plan c o (event ∷ events) d q t =
-    grows_then o.lists (t.0).lists q.lists (grows_one event o t.0 t.2) (lists_grow plan (goes_on plan c.phase c event) t.0 events d q t.3)
-
 -- ---- what was read
 
 get_append : (xs ys : List IngressRecord) (n : ℕ) (found : IngressRecord) → slice_get xs n ≡ Some found → slice_get (xs ++ ys) n ≡ Some found
@@ -95,8 +87,7 @@ read_one (Poll outcome) o p told h g = tt
 read_one (Fails by) o p told h g = tt
 
 pub are_read : (plan : Plan) (c : Control) (o : Seen) (events : List Event) (d : Control) (q : Seen) (told : Lists) → q.lists ≡ Some told → Trace plan c o events d q → AreRead told events
-are_read plan c o [] d q told e t = tt
-are_read plan c o (event ∷ events) d q told e t =
-    let next = goes_on plan c.phase c event in
-    let g : Grows (t.0).lists (Some told) = subst (Grows (t.0).lists) e (lists_grow plan next t.0 events d q t.3) in
-    (read_one event o t.0 told t.2 g, are_read plan next t.0 events d q told e t.3)
+are_read plan c o events d q told e t =
+    (backwards (turns plan) d q (λ c o events. Grows o.lists (Some told) × AreRead told events) (subst (Grows q.lists) e (grows_itself q.lists), tt)
+    (λ c o event p events asked heard h. (grows_then o.lists p.lists (Some told) (grows_one event o p heard) h.0, (read_one event o p told heard h.0, h.1)))
+    c o events t).1

@@ -7,22 +7,19 @@ use Rattle.statefun_driver.specs.declared.end.End.{End}
 use Rattle.statefun_driver.specs.declared.end.End.TheVariants.{Broke}
 use Rattle.statefun_driver.specs.Seen.{Event, Fails, Seen, Hears, HearsFail}
 use Rattle.statefun_driver.specs.Turns.{Plan, Control, Phase, Reading, Asking, Opening, Waiting, Stopped, IsAsked, goes_on, at}
-use Rattle.statefun_driver.specs.Traces.{Trace, Leads, Ends, IsEnd}
-use Rattle.statefun_driver.specs.Work.{Led, LedBy}
-
-trace_then : (plan : Plan) (a : Control) (o : Seen) (events more : List Event) (b : Control) (p : Seen) (c : Control) (q : Seen) → Trace plan a o events b p → Trace plan b p more c q → Trace plan a o (events ++ more) c q
-trace_then plan a o [] more b p c q h k = subst (λ (x : Control). Trace plan x o more c q) (sym h.0) (subst (λ (x : Seen). Trace plan b x more c q) (sym h.1) k)
-trace_then plan a o (event ∷ events) more b p c q h k = (h.0, h.1, h.2, trace_then plan (goes_on plan a.phase a event) h.0 events more b p c q h.3 k)
+use Rattle.statefun_driver.specs.Traces.{Leads, Ends, IsEnd, turns}
+use Rattle.statefun_driver.specs.Work.{Led}
+use Rattle.statefun_driver.proofs.Tracing as tracing
 
 pub leads_none : (plan : Plan) (a : Control) (o : Seen) → Leads plan a o a o
-leads_none plan a o = ([], (refl, refl))
+leads_none plan = tracing.leads_none (turns plan)
 
 pub leads_then : (plan : Plan) (a : Control) (o : Seen) (b : Control) (p : Seen) (c : Control) (q : Seen) → Leads plan a o b p → Leads plan b p c q → Leads plan a o c q
-leads_then plan a o b p c q h k = (h.0 ++ k.0, trace_then plan a o h.0 k.0 b p c q h.1 k.1)
+leads_then plan = tracing.leads_then (turns plan)
 
--- one event
-pub leads_one : (plan : Plan) (a : Control) (o : Seen) (event : Event) (p : Seen) → IsAsked plan.routes a.phase a event → Hears event o p → Leads plan a o (goes_on plan a.phase a event) p
-leads_one plan a o event p asked heard = (event ∷ [], (p, asked, heard, (refl, refl)))
+-- one more event
+pub leads_on : (plan : Plan) (a : Control) (o : Seen) (b : Control) (p : Seen) (event : Event) (q : Seen) → Leads plan a o b p → IsAsked plan.routes b.phase b event → Hears event p q → Leads plan a o (goes_on plan b.phase b event) q
+leads_on plan = tracing.leads_on (turns plan)
 
 pub ends_then : (plan : Plan) (a : Control) (o : Seen) (b : Control) (p : Seen) (entries : List Entry) (end : End) (q : Seen) → Leads plan a o b p → Ends plan b p entries end q → Ends plan a o entries end q
 ends_then plan a o b p entries end q h k = record { last = k.last; leads = leads_then plan a o b p k.last q h k.leads; is_end = k.is_end }
@@ -55,8 +52,7 @@ broken_end c Memory = (tt, ([], sym (append-nil c.entries)))
 pub ends_failing : (plan : Plan) (a : Control) (o : Seen) (c : Control) (p : Seen) (by : Broken) (q : Seen) → Leads plan a o c p → IsOn c.phase → HearsFail by p q → Ends plan a o c.entries (Broke by) q
 ends_failing plan a o c p by q h on heard = record {
   last = at (Stopped (Broke by)) c;
-  leads = leads_then plan a o c p (at (Stopped (Broke by)) c) q h
-      (subst (λ (d : Control). Leads plan c p d q) (on_goes plan c.phase c by on) (leads_one plan c p (Fails by) q (on_asked plan c.phase c by on) heard));
+  leads = subst (λ (d : Control). Leads plan a o d q) (on_goes plan c.phase c by on) (leads_on plan a o c p (Fails by) q h (on_asked plan c.phase c by on) heard);
   is_end = broken_end c by;
 }
 

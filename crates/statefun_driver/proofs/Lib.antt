@@ -1,3 +1,4 @@
+pub mod Tracing
 mod Leading
 mod Phases
 mod Fronts

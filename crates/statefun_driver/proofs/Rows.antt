@@ -11,7 +11,7 @@ use Rattle.statefun_driver.specs.declared.end.End.TheVariants.{Broke, RecordTooL
 use Rattle.statefun_driver.specs.Seen.{Seen, Read, HearsRead, HearsFail}
 use Rattle.statefun_driver.specs.Turns.{Plan, Control, Reading, Stopped, at, quota, longest, dues, size_of, read_on, read, read_from, send_due, serve, take_record, recorded}
 use Rattle.statefun_driver.specs.Traces.{Leads, Ends, IsFront, IsUnbroken}
-use Rattle.statefun_driver.proofs.Leading.{leads_then, leads_one, ends_failing, ends_wanting}
+use Rattle.statefun_driver.proofs.Leading.{leads_on, ends_failing, ends_wanting}
 use Rattle.statefun_driver.proofs.Phases.{read_phase}
 use Rattle.statefun_driver.proofs.Fronts.{front_then, read_on_front}
 use Rattle.statefun_driver.proofs.Resting.{unbroken_rests, rest_read_on}
@@ -40,8 +40,7 @@ pub record IsRead (split : ℕ) (c : Control) (found : Option IngressRecord) (p 
 
 row_read : (plan : Plan) (a : Control) (o : Seen) (split k : ℕ) (c : Control) (p : Seen) (found : Option IngressRecord) (q : Seen) → Ready plan a o split k c p → IsRead split c found p q → Leads plan a o (read plan split k (at (Reading split k) c) found) q
 row_read plan a o split k c p found q h r =
-    leads_then plan a o (at (Reading split k) c) p (read plan split k (at (Reading split k) c) found) q (reads plan a o split k c p h)
-    (leads_one plan (at (Reading split k) c) p (Read split r.offset found) q (refl, r.next) (subst (λ (x : Option IngressRecord). HearsRead split r.offset x p q) r.answer_is r.heard))
+    leads_on plan a o (at (Reading split k) c) p (Read split r.offset found) q (reads plan a o split k c p h) (refl, r.next) (subst (λ (x : Option IngressRecord). HearsRead split r.offset x p q) r.answer_is r.heard)
 
 pub row_none : (plan : Plan) (a : Control) (o : Seen) (split k : ℕ) (c : Control) (p q : Seen) → Ready plan a o split k c p → IsRead split c None p q → Leads plan a o (read_from plan (split + 1) c) q
 row_none plan a o split k c p q h r = subst (λ (x : Control). Leads plan a o x q) (read_phase plan (split + 1) (Reading split k) c) (row_read plan a o split k c p None q h r)
@@ -94,9 +93,11 @@ taken_front plan split found c = (_, refl)
 pub row_wanting : (plan : Plan) (a : Control) (o : Seen) (split k : ℕ) (c : Control) (p : Seen) (found : IngressRecord) (q : Seen) → Ready plan a o split k c p → IsRead split c (Some found) p q → (size : ℕ) → size ≡ size_of found → size ≤ longest → (entries : List Entry) → entries ≡ c.entries → Ends plan a o entries (Broke Memory) q
 row_wanting plan a o split k c p found q h r size is small entries e =
     let next : Control = take_record plan.routes split found c in
-    ends_wanting plan a o (read_on plan split (k + 1) next) entries q (row_within plan a o split k c p found q h r size is small)
-    (rest_read_on IsUnbroken unbroken_rests plan split (k + 1) next, subst (λ (xs : List Entry). IsFront xs (read_on plan split (k + 1) next).entries) (sym e)
-    (front_then c.entries next.entries (read_on plan split (k + 1) next).entries (taken_front plan split found c) (read_on_front plan split (k + 1) next)))
+    ends_wanting plan a o (read_on plan split (k + 1) next) entries q (row_within plan a o split k c p found q h r size is small) (
+      rest_read_on IsUnbroken unbroken_rests plan split (k + 1) next,
+      subst (λ (xs : List Entry). IsFront xs (read_on plan split (k + 1) next).entries) (sym e)
+          (front_then c.entries next.entries (read_on plan split (k + 1) next).entries (taken_front plan split found c) (read_on_front plan split (k + 1) next)),
+    )
 
 -- the quota is spent
 pub rows_spent : (plan : Plan) (a : Control) (o : Seen) (split k : ℕ) (c : Control) (p : Seen) → quota ≤ k → Leads plan a o (read_on plan split k c) p → Leads plan a o (read_from plan (split + 1) (record c { left = true })) p

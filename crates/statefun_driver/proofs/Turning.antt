@@ -6,11 +6,11 @@ use Rattle.statefun_driver.specs.declared.end.End.TheVariants.{Done, TurnsSpent}
 use Rattle.statefun_driver.specs.Seen.{Seen, Now, HearsNow}
 use Rattle.statefun_driver.specs.Turns.{Plan, Control, Phase, Asking, Stopped, at, read_from, turns_phase, finish, is_done, taken_in, first_control}
 use Rattle.statefun_driver.specs.Traces.{Leads, Ends}
-use Rattle.statefun_driver.proofs.Leading.{leads_none, leads_one}
+use Rattle.statefun_driver.proofs.Leading.{leads_none, leads_on}
 
 -- the moment of a turn is told
 pub turn_asked : (plan : Plan) (c : Control) (o : Seen) (moment : ℕ) (p : Seen) (d : Control) → HearsNow moment o p → d ≡ record c { moment = max c.moment moment; phase = Asking } → Leads plan (at Asking c) o (read_from plan 0 d) p
-turn_asked plan c o moment p d heard e = subst (λ (x : Control). Leads plan (at Asking c) o (read_from plan 0 x) p) (sym e) (leads_one plan (at Asking c) o (Now moment) p tt heard)
+turn_asked plan c o moment p d heard e = subst (λ (x : Control). Leads plan (at Asking c) o (read_from plan 0 x) p) (sym e) (leads_on plan (at Asking c) o (at Asking c) o (Now moment) p (leads_none plan (at Asking c) o) tt heard)
 
 -- ---- turn by turn
 

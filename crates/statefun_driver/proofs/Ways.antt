@@ -17,9 +17,10 @@ use Rattle.partition_core.specs.Batches.{batch_at, opened_at}
 use Rattle.statefun_driver.specs.Seen.{Event, Seen, Hears}
 use Rattle.statefun_driver.specs.Turns.{Plan, Control, Phase, Reading, IsAsked, goes_on, at, quota, dues, own_now}
 use Rattle.statefun_driver.specs.Turns.{finish, opening, bounds_of, opened_by, open_batch, serve_first, serve, due_recorded, send_due, read_from, read_on}
-use Rattle.statefun_driver.specs.Traces.{Trace}
+use Rattle.statefun_driver.specs.Traces.{Trace, turns}
 use Rattle.statefun_driver.proofs.Moving.{Moved, moves}
-use Rattle.statefun_driver.proofs.Journal.{lists_grow}
+use Rattle.statefun_driver.proofs.Tracing as tracing
+use Rattle.statefun_driver.proofs.Journal.{grows_itself, grows_then, grows_one}
 use Rattle.statefun_driver.proofs.Standing.{Laws, IsFit, IsHeld, IsSound, held_recorded, makes_due, sound_one, sound_patient}
 
 -- ---- along a trace
@@ -31,18 +32,25 @@ pub sound_next : (laws : Laws) (plan : Plan) → IsFit plan.routes → (c : Cont
 sound_next laws plan fit c event s asked = sound_one laws plan fit c event (goes_on plan c.phase c event) (moved plan c event s asked) s
 
 pub sound_along : (laws : Laws) (plan : Plan) → IsFit plan.routes → (c : Control) (o : Seen) (events : List Event) (d : Control) (q : Seen) → Trace plan c o events d q → IsSound plan c → IsSound plan d
-sound_along laws plan fit c o [] d q t s = subst (IsSound plan) t.0 s
-sound_along laws plan fit c o (event ∷ events) d q t s = sound_along laws plan fit (goes_on plan c.phase c event) t.0 events d q t.3 (sound_next laws plan fit c event s t.1)
+sound_along laws plan fit = tracing.along (turns plan) (λ c o. IsSound plan c) (λ c o event p asked heard s. sound_next laws plan fit c event s asked)
+
+-- from the end, where each event is one of the ten cases
+pub backwards : (laws : Laws) (plan : Plan) → IsFit plan.routes → (d : Control) (q : Seen) (P : Control → Seen → List Event → Type 0) → P d q []
+    → ((c : Control) (o : Seen) (event : Event) (p : Seen) (events : List Event) → IsSound plan c → IsAsked plan.routes c.phase c event → Moved plan c event (goes_on plan c.phase c event) → Hears event o p
+    → P (goes_on plan c.phase c event) p events → P c o (event ∷ events))
+    → (c : Control) (o : Seen) (events : List Event) → Trace plan c o events d q → IsSound plan c → P c o events
+backwards laws plan fit d q P end one =
+    tracing.backwards (turns plan) d q (λ c o events. IsSound plan c → P c o events) (λ s. end)
+    (λ c o event p events asked heard more s. one c o event p events s asked (moved plan c event s asked) heard (more (sound_next laws plan fit c event s asked)))
 
 -- what each event keeps holds at the end
 pub along : (laws : Laws) (plan : Plan) → IsFit plan.routes → (q : Seen) (P : Control → Seen → Type 0)
     → ((c : Control) (o : Seen) (event : Event) (x : Control) (p : Seen) → IsSound plan c → IsAsked plan.routes c.phase c event → Moved plan c event x → Hears event o p → Grows p.lists q.lists → P c o → P x p)
     → (c : Control) (o : Seen) (events : List Event) (d : Control) → Trace plan c o events d q → IsSound plan c → P c o → P d q
-along laws plan fit q P one c o [] d t s h = subst (λ (x : Control). P x q) t.0 (subst (P c) t.1 h)
-along laws plan fit q P one c o (event ∷ events) d t s h =
-    let next = goes_on plan c.phase c event in
-    along laws plan fit q P one next t.0 events d t.3 (sound_next laws plan fit c event s t.1)
-    (one c o event next t.0 s t.1 (moved plan c event s t.1) t.2 (lists_grow plan next t.0 events d q t.3) h)
+along laws plan fit q P one c o events d t s =
+    (backwards laws plan fit d q (λ c o events. Grows o.lists q.lists × (P c o → P d q)) (grows_itself q.lists, λ h. h)
+    (λ c o event p events s asked m heard more. (grows_then o.lists p.lists q.lists (grows_one event o p heard) more.0, λ h. more.1 (one c o event (goes_on plan c.phase c event) p s asked m heard more.0 h)))
+    c o events t s).1
 
 -- ---- where the turns go by themselves, until they ask again
 
