@@ -1,13 +1,12 @@
 -- How a batch is opened, and what the attempts at it and its valid answer lead to.
-use Rattle.std.proofs.Common.{◌≡◌, ℕ, ◌+◌, ◌<◌, ◌≤◌, refl, sym, ◌∙◌, ap, subst, List, [], ◌∷◌, ◌++◌, length, map, take, cond, Bool, true, false, Option, Some, None, Result, Ok, Err, append-nil, arith}
-use Rattle.std.specs.Prelude.{nat_le, min, ◌&&◌, IfOk, IfErr, OnOk}
+use Rattle.std.proofs.Common.{◌≡◌, ℕ, ◌<◌, ◌≤◌, refl, sym, ◌∙◌, ap, subst, List, [], ◌∷◌, ◌++◌, length, map, take, cond, Bool, true, false, Some, Result, Ok, Err, append-nil, arith}
+use Rattle.std.specs.Prelude.{nat_le, min, IfOk, IfErr, OnOk}
 use Rattle.std.specs.Cmp.{first_so, second_so}
 use Rattle.std.proofs.lemmas.Bool.{leb-true, false_from_ne_true}
 use Rattle.std.proofs.lemmas.List.{append_assoc, length-map}
 use Rattle.std.proofs.Math.Seq.{take-append_seam}
 use Rattle.typed_values.specs.declared.address.Address.{Address}
 use Rattle.typed_values.specs.declared.letter.Letter.{Letter}
-use Rattle.typed_values.specs.Sameness.{same_address}
 use Rattle.batch_queue.specs.Batches.{request_size}
 use Rattle.batch_queue.specs.Post.{Post, opened as opened_post}
 use Rattle.batch_queue.specs.declared.fault.BatchFault.TheVariants.{TooLarge}
@@ -30,7 +29,7 @@ use Rattle.statefun_driver.specs.Traces.{Leads, Ends, IsFront, IsUnbroken}
 use Rattle.statefun_driver.proofs.Leading.{leads_none, ends_wanting}
 use Rattle.statefun_driver.proofs.Fronts.{front_same, open_entries}
 use Rattle.statefun_driver.proofs.Resting.{unbroken_rests, rest_open}
-use Rattle.statefun_driver.specs.Turns.{Plan, Control, Phase, Opening, Stopped, at, bounds_of, opening, opened, opened_by, open_batch}
+use Rattle.statefun_driver.specs.Turns.{Plan, Control, Opening, Stopped, at, bounds_of, opening, opened, opened_by, open_batch}
 use Rattle.statefun_driver.specs.Work.{Led, flying, opening_at, IsAskedIn}
 
 -- ---- the front of the letters that goes into a batch

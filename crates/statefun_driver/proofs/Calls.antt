@@ -1,7 +1,6 @@
 -- What a call leads to: its start, its polls and what becomes of it.
-use Rattle.std.proofs.Common.{◌≡◌, ℕ, ◌+◌, ◌<◌, ◌≤◌, refl, sym, ◌∙◌, ap, subst, List, [], Bool, true, false, cond, Option, Some, None, lt-ltb, le-ltb}
+use Rattle.std.proofs.Common.{◌≡◌, ℕ, ◌+◌, ◌<◌, ◌≤◌, refl, sym, ap, subst, List, Bool, true, false, cond, Option, Some, None, lt-ltb, le-ltb}
 use Rattle.std.specs.Prelude.{nat_lt}
-use Rattle.typed_values.specs.declared.address.Address.{Address}
 use Rattle.sf_outside.specs.declared.call.Call.{Call}
 use Rattle.sf_outside.specs.declared.call.Outcome.{Outcome}
 use Rattle.sf_outside.specs.declared.call.Answered.{Answered}
@@ -12,13 +11,12 @@ use Rattle.invocation.specs.declared.judging.Judged.TheVariants.{Accept, Registe
 use Rattle.invocation.specs.Judging.{judgement}
 use Rattle.run_record.specs.declared.entry.Step.TheVariants as step
 use Rattle.run_record.specs.Machine.{declared}
-use Rattle.run_record.specs.declared.entry.Reply.{Reply}
 use Rattle.typed_values.specs.declared.letter.Sender.TheVariants.{Function}
 use Rattle.partition_core.specs.Batches.{request_bytes}
 use Rattle.statefun_driver.specs.declared.end.Broken.{Broken}
 use Rattle.statefun_driver.specs.declared.end.End.TheVariants.{Broke}
 use Rattle.statefun_driver.specs.Seen.{Seen, Start, Poll, HearsStart, HearsPoll, HearsFail}
-use Rattle.statefun_driver.specs.Turns.{Plan, Control, Phase, Opening, Waiting, Asked, at, recorded, own_now, call_of, own_part, came_of, came, settled, reply_to, fated, wait, polled, patience_at, open_batch}
+use Rattle.statefun_driver.specs.Turns.{Plan, Control, Phase, Opening, Waiting, Asked, at, recorded, own_now, call_of, own_part, came_of, settled, reply_to, fated, wait, polled, patience_at}
 use Rattle.statefun_driver.specs.Traces.{Leads, Ends}
 use Rattle.statefun_driver.proofs.Leading.{leads_none, leads_on, ends_failing}
 use Rattle.statefun_driver.proofs.Phases.{open_phase}

@@ -1,5 +1,5 @@
 -- Why a run ends, and that it is complete.
-use Rattle.std.proofs.Common.{◌≡◌, ◌↔◌, ◌∙◌, refl, sym, ap, subst, ℕ, ◌+◌, ◌≤◌, List, [], ◌∷◌, length, Bool, true, false, cond, ◌⊎◌, inl, inr, Option, Some, None, arith, nat_lt, nat_le, leb-false}
+use Rattle.std.proofs.Common.{◌≡◌, ◌↔◌, ◌∙◌, refl, sym, subst, ℕ, ◌+◌, ◌≤◌, List, length, false, Option, Some, None, arith, nat_le, leb-false}
 use Rattle.std.specs.Prelude.{max}
 use Rattle.sf_outside.specs.Told.{Rose}
 use Rattle.sf_outside.specs.declared.call.Answered.{Answered}
@@ -10,9 +10,9 @@ use Rattle.statefun_driver.specs.declared.end.Broken.{Broken}
 use Rattle.statefun_driver.specs.declared.end.Broken.TheVariants.{Ingress, Link, Memory}
 use Rattle.statefun_driver.specs.declared.end.End.{End}
 use Rattle.statefun_driver.specs.declared.end.End.TheVariants.{Done, TurnsSpent, RecordTooLarge, BatchTooLarge, EndpointFailed, Broke}
-use Rattle.statefun_driver.specs.Seen.{Event, Read, Now, Start, Poll, Fails, Seen, Hears, HearsFail}
-use Rattle.statefun_driver.specs.Turns.{Plan, Control, Phase, Reading, Asking, Opening, Waiting, Stopped, Asked, Came, Answers, Failed, IsAsked, goes_on, take_record, size_of, longest}
-use Rattle.statefun_driver.specs.Turns.{own_part, came, with_reason, attempts_at, patience_at}
+use Rattle.statefun_driver.specs.Seen.{Event, Seen, Hears, HearsFail}
+use Rattle.statefun_driver.specs.Turns.{Plan, Control, Phase, Reading, Asking, Opening, Waiting, Stopped, Came, Answers, Failed, IsAsked, goes_on, take_record, size_of, longest}
+use Rattle.statefun_driver.specs.Turns.{own_part, came, with_reason, patience_at}
 use Rattle.statefun_driver.specs.Traces.{Trace, IsEnd, IsUnbroken}
 use Rattle.statefun_driver.specs.Runs.{AreCalm, IsCauseOf, IsServedBy, IsServed, IsRoomy, AreServed, IsComplete, NoneRose}
 use Rattle.statefun_driver.proofs.Resting.{Rests, unbroken_rests, tried_unbroken, rest_finish, rest_open, rest_read, rest_read_on}

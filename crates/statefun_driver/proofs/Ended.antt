@@ -19,7 +19,7 @@ use Rattle.statefun_driver.specs.declared.end.Broken.TheVariants.{Ingress, Link,
 use Rattle.statefun_driver.specs.declared.end.End.{End}
 use Rattle.statefun_driver.specs.declared.end.End.TheVariants.{Done, TurnsSpent, RecordTooLarge, BatchTooLarge, EndpointFailed, Broke}
 use Rattle.statefun_driver.specs.Seen.{Event, Read, Now, Start, Poll, Fails, Seen}
-use Rattle.statefun_driver.specs.Turns.{Plan, Control, Phase, Asking, Reading, Opening, Waiting, Stopped, IsAsked, first_control, goes_on, taken_in}
+use Rattle.statefun_driver.specs.Turns.{Plan, Control, Phase, Asking, Reading, Opening, Waiting, Stopped, IsAsked, first_control, taken_in}
 use Rattle.statefun_driver.specs.Traces.{Trace, Ends, IsEnd, IsUnbroken, IsFront}
 use Rattle.statefun_driver.specs.Runs.{AreRead, Replays, HasState, IsFresh, IsBackedRun, AreTried, IsTooLarge, IsDelivered, IfDone, IsModest, AreModest, IsBoundedIn, AreBounded, IsRun}
 use Rattle.statefun_driver.specs.Laws.{EndsAreRuns}

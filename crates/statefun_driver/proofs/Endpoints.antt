@@ -1,7 +1,7 @@
 -- What holds of each endpoint holds of the one that an address has.
-use Rattle.std.proofs.Common.{◌≡◌, ℕ, ◌≤◌, refl, sym, ◌∙◌, subst, List, [], ◌∷◌, cond, Bool, true, false, Option, Some, None, arith}
+use Rattle.std.proofs.Common.{◌≡◌, ◌≤◌, refl, sym, ◌∙◌, subst, List, [], ◌∷◌, cond, Bool, true, false, Option, Some, None, arith}
 use Rattle.std.proofs.lemmas.Bool.{ltb-true}
-use Rattle.std.specs.Prelude.{IsTrue, IfSome, find, not, nat_lt, nat_le, map, ◌&&◌}
+use Rattle.std.specs.Prelude.{IsTrue, IfSome, find, nat_lt, nat_le, map, ◌&&◌}
 use Rattle.std.specs.List.{AllByRecursion, list_all}
 use Rattle.std.specs.Option.{option_copied}
 use Rattle.std.specs.Borrow.{Bor}

@@ -1,5 +1,5 @@
 -- What leads on: the parts of a run, one after the other.
-use Rattle.std.proofs.Common.{◌≡◌, refl, sym, ◌∙◌, ap, subst, List, [], ◌∷◌, ◌++◌, Result, Ok, Err, append-nil}
+use Rattle.std.proofs.Common.{◌≡◌, refl, sym, subst, List, [], Result, Ok, Err, append-nil}
 use Rattle.run_record.specs.declared.entry.Entry.{Entry}
 use Rattle.statefun_driver.specs.declared.end.Broken.{Broken}
 use Rattle.statefun_driver.specs.declared.end.Broken.TheVariants.{Ingress, Link, Memory}

@@ -1,5 +1,5 @@
 -- Where a run goes on does not ask for the phase that it was in.
-use Rattle.std.proofs.Common.{◌≡◌, ◌∙◌, ap, refl, ℕ, zero, suc, ◌+◌, Bool, true, false, cond, List, [], ◌∷◌, slice_get, Option, Some, None}
+use Rattle.std.proofs.Common.{◌≡◌, ◌∙◌, ap, refl, ℕ, zero, suc, Bool, true, false, cond, List, [], ◌∷◌, slice_get, Option, Some, None}
 use Rattle.std.specs.Prelude.{nat_lt, ◌^◌}
 use Rattle.std.specs.Option.{option_map_or}
 use Rattle.typed_values.specs.declared.address.Address.{Address}
@@ -11,7 +11,7 @@ use Rattle.address_routing.specs.declared.module.Endpoint.{Endpoint}
 use Rattle.address_routing.specs.Routing.{splits_in, endpoint_of}
 use Rattle.partition_core.specs.declared.bounds.Bounds.{Bounds}
 use Rattle.partition_core.specs.Batches.{batch_at}
-use Rattle.statefun_driver.specs.Turns.{Plan, Control, Phase, Reading, at, dues, due_recorded, send_due, opening, opened, opened_by, open_batch, bounds_of, serve_first, serve, read_from, recorded}
+use Rattle.statefun_driver.specs.Turns.{Plan, Control, Phase, Reading, at, dues, due_recorded, send_due, opening, opened_by, open_batch, bounds_of, serve_first, serve, read_from, recorded}
 
 due_phase : (m : Module) (due : Delay × List Delay) (phase : Phase) (c : Control) → due_recorded m due (at phase c) ≡ at phase (due_recorded m due c)
 unfolding recorded

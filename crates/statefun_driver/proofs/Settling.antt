@@ -1,12 +1,11 @@
 -- What a valid answer does, and where the turns go on behind it.
-use Rattle.std.proofs.Common.{◌≡◌, ℕ, ◌+◌, ◌-◌, ◌<◌, ◌≤◌, refl, sym, ◌∙◌, ap, subst, List, [], ◌∷◌, ◌++◌, length, map, take, cond, Bool, true, false, Option, Some, None, arith}
+use Rattle.std.proofs.Common.{◌≡◌, ℕ, ◌+◌, ◌-◌, ◌<◌, refl, sym, ◌∙◌, ap, subst, List, [], ◌∷◌, ◌++◌, length, map, take, cond, true, arith}
 use Rattle.std.proofs.lemmas.List.{length-map, length-take}
 use Rattle.typed_values.specs.declared.address.Address.{Address}
 use Rattle.typed_values.specs.declared.cell.CellSpec.{CellSpec}
 use Rattle.typed_values.specs.declared.letter.Letter.{Letter}
 use Rattle.typed_values.specs.declared.letter.Sender.{Sender}
 use Rattle.typed_values.specs.declared.letter.Sender.TheVariants.{Function}
-use Rattle.typed_values.specs.Sameness.{same_address}
 use Rattle.sf_outside.specs.declared.call.Call.{Call}
 use Rattle.state_cells.specs.Lifetimes.{Registers, after_all as cells_after}
 use Rattle.batch_queue.specs.Post.{Post, waits, is_ready, returned}
@@ -15,7 +14,6 @@ use Rattle.address_routing.specs.declared.module.Module.{Module}
 use Rattle.address_routing.specs.Routing.{splits_in}
 use Rattle.invocation.specs.declared.effects.Effects.{Effects}
 use Rattle.invocation.specs.Laws.{AreNew}
-use Rattle.run_record.specs.declared.entry.Entry.{Entry}
 use Rattle.run_record.specs.declared.entry.Reply.{Reply}
 use Rattle.run_record.specs.declared.entry.Step.TheVariants as step
 use Rattle.run_record.specs.Machine.{Own, served, declared}

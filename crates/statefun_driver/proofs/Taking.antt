@@ -1,5 +1,5 @@
 -- A valid answer fits the cells that it is judged by, and one that misses values misses new ones.
-use Rattle.std.proofs.Common.{◌≡◌, ℕ, ◌+◌, ◌<◌, ◌≤◌, refl, sym, subst, List, [], ◌∷◌, ◌++◌, length, map, cond, Bool, true, false, Option, Some, None, is_some, Result, Ok, Err, length-append, arith}
+use Rattle.std.proofs.Common.{◌≡◌, ℕ, ◌+◌, ◌<◌, ◌≤◌, refl, subst, List, [], ◌∷◌, ◌++◌, length, map, cond, Bool, true, false, Option, Some, None, is_some, Result, Ok, Err, length-append, arith}
 use Rattle.std.specs.Prelude.{nat_le, nat_lt}
 use Rattle.std.proofs.lemmas.Bool.{leb-false}
 use Rattle.typed_values.specs.declared.address.Address.{Address}

@@ -1,5 +1,5 @@
 -- Laws of the traces of any loop: what holds along one, and how they are joined.
-use Rattle.std.proofs.Common.{◌≡◌, refl, sym, subst, List, [], ◌∷◌, ◌++◌}
+use Rattle.std.proofs.Common.{refl, sym, subst, List, [], ◌∷◌, ◌++◌}
 use Rattle.statefun_driver.specs.Traces.{Loop, TraceBy, LeadsBy}
 
 module _ {C E S : Type 0} (loop : Loop C E S) where

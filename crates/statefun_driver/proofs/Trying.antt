@@ -1,10 +1,7 @@
 -- What the attempts at a batch lead to.
-use Rattle.std.proofs.Common.{◌≡◌, ℕ, ◌+◌, ◌<◌, ◌≤◌, refl, sym, ◌∙◌, ap, subst, List, [], ◌∷◌, ◌++◌, length, cond, Bool, true, false, Option, Some, None, Result, Ok, Err, lt-ltb, le-ltb, append-nil}
-use Rattle.std.specs.Prelude.{nat_lt}
+use Rattle.std.proofs.Common.{◌≡◌, ℕ, ◌<◌, ◌≤◌, refl, sym, ◌∙◌, ap, subst, List, [], ◌∷◌, ◌++◌, length, cond, Option, Some, Result, Ok, Err, lt-ltb, le-ltb}
 use Rattle.std.specs.Option.{option_map_or}
 use Rattle.typed_values.specs.declared.address.Address.{Address}
-use Rattle.typed_values.specs.declared.cells.Cell.{Cell}
-use Rattle.typed_values.specs.declared.cell.CellSpec.{CellSpec}
 use Rattle.sf_outside.specs.declared.call.Call.{Call}
 use Rattle.sf_outside.specs.declared.call.Answered.{Answered}
 use Rattle.sf_outside.specs.declared.call.Answered.TheVariants as tells
@@ -12,7 +9,6 @@ use Rattle.request_reply.specs.declared.flaw.Reason.{Reason}
 use Rattle.address_routing.specs.declared.module.Module.{Module}
 use Rattle.address_routing.specs.declared.module.Endpoint.{Endpoint}
 use Rattle.address_routing.specs.Routing.{endpoint_of}
-use Rattle.invocation.specs.declared.effects.Effects.{Effects}
 use Rattle.invocation.specs.declared.judging.Judged.{Judged}
 use Rattle.invocation.specs.declared.judging.Judged.TheVariants.{Accept, Register as Declare, Flaw}
 use Rattle.invocation.specs.Judging.{judgement}
@@ -30,9 +26,9 @@ use Rattle.statefun_driver.specs.declared.end.End.{End}
 use Rattle.statefun_driver.specs.declared.end.End.TheVariants.{EndpointFailed, Broke}
 use Rattle.statefun_driver.specs.declared.end.Broken.TheVariants.{Memory}
 use Rattle.statefun_driver.specs.Seen.{Seen}
-use Rattle.statefun_driver.specs.Turns.{Plan, Control, Phase, Opening, Stopped, Asked, Came, Answers, Failed, at, recorded, own_now, reply_to, open_batch, came, came_of, settled, fated, attempts_at, patience_at, tried_phase, with_reason}
+use Rattle.statefun_driver.specs.Turns.{Plan, Control, Opening, Stopped, Asked, Came, Answers, Failed, at, recorded, own_now, reply_to, came, came_of, settled, fated, attempts_at, patience_at, tried_phase, with_reason}
 use Rattle.statefun_driver.specs.Traces.{Leads, Ends, IsEnd, IsFront, IsUnbroken}
-use Rattle.statefun_driver.specs.Work.{LedBy, IsAskedIn, flying, here, opening_at, replied, valid_as, came_as}
+use Rattle.statefun_driver.specs.Work.{LedBy, IsAskedIn, flying, here, opening_at, replied, valid_as}
 use Rattle.statefun_driver.proofs.Leading.{leads_none, leads_then, ends_then, ends_wanting}
 use Rattle.statefun_driver.proofs.Fronts.{front_same, open_entries}
 use Rattle.statefun_driver.proofs.Resting.{unbroken_rests, tried_unbroken, rest_finish, rest_open}

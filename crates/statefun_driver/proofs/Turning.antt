@@ -1,7 +1,6 @@
 -- What a whole turn leads to.
-use Rattle.std.proofs.Common.{◌≡◌, ℕ, ◌+◌, ◌<◌, ◌≤◌, refl, sym, ◌∙◌, ap, subst, List, [], length, Bool, true, false, cond, lt-ltb, le-ltb}
-use Rattle.std.specs.Prelude.{max, nat_lt}
-use Rattle.run_record.specs.declared.entry.Entry.{Entry}
+use Rattle.std.proofs.Common.{◌≡◌, ℕ, ◌+◌, ◌<◌, ◌≤◌, refl, sym, ◌∙◌, ap, subst, length, true, false, cond, lt-ltb, le-ltb}
+use Rattle.std.specs.Prelude.{max}
 use Rattle.statefun_driver.specs.declared.end.End.TheVariants.{Done, TurnsSpent}
 use Rattle.statefun_driver.specs.Seen.{Seen, Now, HearsNow}
 use Rattle.statefun_driver.specs.Turns.{Plan, Control, Phase, Asking, Stopped, at, read_from, turns_phase, finish, is_done, taken_in, first_control}

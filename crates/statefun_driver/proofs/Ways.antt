@@ -1,5 +1,5 @@
 -- What holds along a trace, and where the turns go by themselves.
-use Rattle.std.proofs.Common.{◌≡◌, refl, subst, ℕ, zero, suc, ◌+◌, List, [], ◌∷◌, Bool, true, false, cond, slice_get, Option, Some, None}
+use Rattle.std.proofs.Common.{◌≡◌, refl, ℕ, zero, suc, ◌+◌, List, [], ◌∷◌, Bool, true, false, cond, slice_get, Option, Some, None}
 use Rattle.std.specs.Prelude.{nat_lt, ◌^◌}
 use Rattle.std.specs.Option.{option_map_or}
 use Rattle.typed_values.specs.declared.address.Address.{Address}

@@ -1,5 +1,5 @@
 -- What the outside of a run tells of itself, and what one event of it changes.
-use Rattle.std.specs.Prelude.{◌≡◌, ◌≤◌, ◌<◌, ◌^◌, ℕ, List, [], ◌∷◌, Option, Some, None, Ok, IfSome, ◌⊎◌}
+use Rattle.std.specs.Prelude.{◌≡◌, ◌≤◌, ◌<◌, ◌^◌, ℕ, List, [], ◌∷◌, Option, Ok, IfSome, ◌⊎◌}
 use Rattle.std.specs.Option.{option_map}
 use Rattle.sf_outside.specs.Told.{more, Rose}
 use Rattle.sf_outside.specs.Splits.{Lists, Grows, Reads}

@@ -7,7 +7,6 @@ use Rattle.typed_values.specs.declared.address.Address.{Address}
 use Rattle.typed_values.specs.declared.letter.Sender.{Sender}
 use Rattle.typed_values.specs.declared.letter.Sender.TheVariants.{Split, Function}
 use Rattle.typed_values.specs.declared.letter.Letter.{Letter}
-use Rattle.typed_values.specs.declared.cells.Cell.{Cell}
 use Rattle.typed_values.specs.declared.record.Delay.{Delay}
 use Rattle.typed_values.specs.Delays.{due_at}
 use Rattle.sf_outside.specs.declared.ingress.IngressRecord.{IngressRecord}
@@ -33,7 +32,6 @@ use Rattle.run_record.specs.Machine.{Act, Own, took, served, declared, sent_late
 use Rattle.partition_core.specs.declared.bounds.Bounds.{Bounds}
 use Rattle.partition_core.specs.Work.{Work, no_work, own_in, done, counted, is_idle}
 use Rattle.partition_core.specs.Batches.{batch_at, opened_at, request_bytes}
-use Rattle.statefun_driver.specs.declared.end.Broken.{Broken}
 use Rattle.statefun_driver.specs.declared.end.End.{End}
 use Rattle.statefun_driver.specs.declared.end.End.TheVariants.{Done, TurnsSpent, RecordTooLarge, BatchTooLarge, EndpointFailed, Broke}
 use Rattle.statefun_driver.specs.Seen.{Event, Read, Now, Start, Poll, Fails}

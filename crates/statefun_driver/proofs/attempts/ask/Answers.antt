@@ -1,14 +1,10 @@
-use Rattle.std.proofs.Common.{◌≡◌, sym, ◌∙◌, Option, Some, None, List, ℕ}
+use Rattle.std.proofs.Common.{◌≡◌, sym, ◌∙◌, Option, Some, None}
 use Rattle.std.specs.Prelude.{IsSome}
 use Rattle.std.specs.Option.{option_map}
 use Rattle.typed_values.specs.declared.name.TypeName.{TypeName}
 use Rattle.address_routing.specs.declared.module.Endpoint.{Endpoint}
 use Rattle.address_routing.specs.declared.module.Module.{Module}
 use Rattle.address_routing.specs.Routing.{endpoint_of, filled, url_of}
-use Rattle.statefun_driver.proofs.Batches.{open_some}
-use Rattle.statefun_driver.proofs.Trying.{tries}
-use Rattle.statefun_driver.proofs.Taking.{is_taken}
-use Rattle.statefun_driver.proofs.Calls.{late}
 use Rattle.statefun_driver.proofs.attempts.ask.Goals as goal
 
 url_there : (m : Module) (kind : TypeName) → IsSome (endpoint_of m kind) → url_of m kind ≡ None → ⊥

@@ -1,4 +1,4 @@
-use Rattle.std.proofs.Common.{◌≡◌, ◌∙◌, refl, sym, ◌+◌, ◌<◌, ◌≤◌, arith}
+use Rattle.std.proofs.Common.{◌∙◌, refl, sym, ◌<◌, ◌≤◌, arith}
 use Rattle.std.proofs.lemmas.Result.{err_from_is_err_and}
 use Rattle.statefun_driver.specs.Turns.{patience_at}
 use Rattle.statefun_driver.specs.Work.{called, flying, here, opening_at, plan_of}

@@ -1,16 +1,14 @@
-use Rattle.std.proofs.Common.{◌≡◌, ◌∙◌, refl, sym, ap, subst, ℕ, ◌+◌, ◌<◌, ◌≤◌, List, [], ◌∷◌, ◌++◌, length, arith, append-nil}
+use Rattle.std.proofs.Common.{◌∙◌, refl, sym, ap, subst, ℕ, ◌+◌, ◌<◌, ◌≤◌, List, [], ◌∷◌, length, arith}
 use Rattle.std.proofs.lemmas.List.{length-append}
 use Rattle.std.proofs.lemmas.Result.{err_from_is_err_and}
 use Rattle.typed_values.specs.declared.address.Address.{Address}
 use Rattle.typed_values.specs.declared.cells.Cell.{Cell}
 use Rattle.sf_outside.specs.declared.call.Call.{Call}
-use Rattle.statefun_driver.specs.declared.end.End.{End}
 use Rattle.statefun_driver.specs.declared.end.End.TheVariants.{EndpointFailed}
 use Rattle.statefun_driver.specs.Traces.{Ends}
-use Rattle.statefun_driver.specs.declared.progress.Progress.{Progress}
 use Rattle.statefun_driver.specs.Turns.{attempts_at, at, tried_phase}
 use Rattle.statefun_driver.specs.Work.{IsTaken, came_as, flying, here, opening_at, plan_of}
-use Rattle.statefun_driver.proofs.Leading.{leads_none, ends_then, ends_wanting}
+use Rattle.statefun_driver.proofs.Leading.{ends_then, ends_wanting}
 use Rattle.statefun_driver.proofs.Fronts.{front_same}
 use Rattle.statefun_driver.proofs.Resting.{tried_unbroken}
 use Rattle.statefun_driver.proofs.Trying.{attempts_is, patience_is, tries, attempt_failed, attempt_answered, tried_out, attempt_wants, only_calls, asked_still, cells_still}

@@ -1,6 +1,5 @@
-use Rattle.std.proofs.Common.{◌≡◌, ◌∙◌, refl, sym, ap, subst, true, false, [], Option, Some, None}
+use Rattle.std.proofs.Common.{◌≡◌, ◌∙◌, sym, subst, true, false, [], Option}
 use Rattle.std.proofs.lemmas.Result.{err_from_is_err_and}
-use Rattle.batch_queue.specs.declared.fault.BatchFault.{BatchFault}
 use Rattle.partition_core.specs.declared.opened.Opened.{Opened}
 use Rattle.partition_core.specs.Batches.{Opens, IsTooLarge}
 use Rattle.partition_core.specs.Kept.{work_of}

@@ -1,9 +1,8 @@
-use Rattle.std.proofs.Common.{◌≡◌, ◌∙◌, refl, sym, ap, subst, ℕ, ◌+◌, ◌*◌, ◌<◌, ◌≤◌, ◌^◌, true, length, slice_get, Option, Some, None, arith}
+use Rattle.std.proofs.Common.{◌≡◌, ◌∙◌, refl, sym, ap, subst, ℕ, ◌<◌, ◌^◌, true, Option, Some, arith}
 use Rattle.std.proofs.lemmas.Result.{err_from_is_err_and}
 use Rattle.typed_values.specs.declared.address.Address.{Address}
 use Rattle.batch_queue.specs.Post.{is_ready}
 use Rattle.partition_core.specs.Kept.{work_of}
-use Rattle.run_record.specs.declared.entry.Entry.{Entry}
 use Rattle.statefun_driver.specs.Turns.{Control, finish, open_batch, serve}
 use Rattle.statefun_driver.specs.Traces.{Leads, IsFront, IsUnbroken}
 use Rattle.statefun_driver.specs.Work.{IfAgain, GoesAgain, here, plan_of, served_on}

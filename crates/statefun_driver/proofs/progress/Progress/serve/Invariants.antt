@@ -1,4 +1,4 @@
-use Rattle.std.proofs.Common.{◌≡◌, ◌+◌, ◌*◌, ◌≤◌, true, length}
+use Rattle.std.proofs.Common.{◌≡◌, ◌*◌, ◌≤◌, true, length}
 use Rattle.batch_queue.specs.Post.{is_ready}
 use Rattle.statefun_driver.specs.Turns.{open_batch, serve}
 use Rattle.statefun_driver.specs.Work.{IsCalledBy, here, plan_of}

@@ -1,10 +1,8 @@
-use Rattle.std.proofs.Common.{◌≡◌, ◌∙◌, sym, ap, subst, ℕ, ◌≤◌, List, [], length, Option, Result}
+use Rattle.std.proofs.Common.{◌∙◌, sym, subst, List, [], length}
 use Rattle.std.proofs.lemmas.Result.{err_from_is_err_and, IfOk-weaker}
 use Rattle.typed_values.specs.declared.address.Address.{Address}
 use Rattle.typed_values.specs.declared.cells.Cell.{Cell}
-use Rattle.statefun_driver.specs.declared.end.End.{End}
-use Rattle.statefun_driver.specs.Seen.{Seen}
-use Rattle.statefun_driver.specs.Turns.{Control, open_batch}
+use Rattle.statefun_driver.specs.Turns.{open_batch}
 use Rattle.statefun_driver.specs.Traces.{Leads, Ends}
 use Rattle.statefun_driver.specs.Work.{IfAgain, IsAskedIn, IsTaken, LedBy, here, opening_at, plan_of, replied, served_on}
 use Rattle.statefun_driver.proofs.Leading.{leads_then, ends_then}

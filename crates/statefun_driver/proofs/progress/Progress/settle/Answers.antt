@@ -1,14 +1,13 @@
-use Rattle.std.proofs.Common.{◌≡◌, ◌∙◌, sym, ap, subst, ℕ, ◌<◌, length}
+use Rattle.std.proofs.Common.{◌∙◌, sym, ap, subst, ℕ, ◌<◌, length}
 use Rattle.std.proofs.lemmas.Result.{err_from_is_err_and}
 use Rattle.typed_values.specs.declared.address.Address.{Address}
-use Rattle.typed_values.specs.declared.letter.Sender.TheVariants.{Function}
 use Rattle.invocation.specs.Laws.{TakesAll, AreNew}
 use Rattle.run_record.specs.declared.entry.Reply.{Reply}
 use Rattle.partition_core.specs.Work.{own_of}
 use Rattle.partition_core.specs.Kept.{work_of}
 use Rattle.statefun_driver.specs.declared.progress.Progress.{Progress}
 use Rattle.statefun_driver.specs.declared.settled.Valid.{Valid}
-use Rattle.statefun_driver.specs.Turns.{Control, finish, open_batch}
+use Rattle.statefun_driver.specs.Turns.{Control}
 use Rattle.statefun_driver.specs.Traces.{Leads}
 use Rattle.statefun_driver.specs.Work.{GoesAgain, IsTaken, here, plan_of, replied}
 use Rattle.statefun_driver.proofs.Leading.{leads_none}

@@ -1,4 +1,4 @@
-use Rattle.std.proofs.Common.{◌≡◌, ◌∙◌, sym, ap}
+use Rattle.std.proofs.Common.{◌∙◌, sym, ap}
 use Rattle.partition_core.specs.Kept.{work_of}
 use Rattle.invocation.specs.Judging.{judgement}
 use Rattle.statefun_driver.specs.Turns.{came_of}
