@@ -23,6 +23,3 @@ pub use laws::{
 };
 pub use store::Store;
 pub use store_faults::StoreFault;
-
-#[cfg(test)]
-mod tests;
