@@ -6,10 +6,10 @@ mod calling;
 mod serving;
 
 use calling::{calls, url_of};
-use function_server::Greeter;
+use function_server::{Entry, FunctionTable, Greeter};
 use http_link::{Caller, make_all};
 use proto_wire::OutOfMemory;
-use serving::{serve_one, table};
+use serving::{greeter_name, serve_one};
 use std::net::TcpListener;
 use std::process::ExitCode;
 use std::{str, thread};
@@ -19,12 +19,18 @@ fn main(rt: HostRuntime) -> ExitCode {
     let Ok(make) = Box::new(alloc, move |calls| make_all(&rt, alloc, calls)) else {
         return ExitCode::FAILURE;
     };
+    let mut entries = Vec::new(alloc);
     let Ok(greeter) = Box::new(alloc, Greeter) else {
         return ExitCode::FAILURE;
     };
-    let Ok(table) = table(alloc, greeter) else {
+    let Ok(name) = greeter_name(alloc) else {
         return ExitCode::FAILURE;
     };
+    let entry: Entry = (name, greeter);
+    if entries.push(entry).is_err() {
+        return ExitCode::FAILURE;
+    }
+    let table = FunctionTable::new(entries);
     let Ok(listener) = TcpListener::bind(&rt, ("127.0.0.1", 0)) else {
         return ExitCode::FAILURE;
     };

@@ -1,5 +1,5 @@
 //! The functions, and one connection to them.
-use function_server::{FunctionTable, OwnedFunction, serve_connection};
+use function_server::{FunctionTable, serve_connection};
 use proto_wire::{Mem, Text};
 use sf_outside::{ReaderSource, WriterSink};
 use std::alloc::Global;
@@ -16,13 +16,10 @@ pub(crate) fn serve_one(alloc: Global, table: &FunctionTable, listener: &TcpList
     serve_connection(alloc, table, &mut source, &mut sink).unwrap_or(0)
 }
 
-/// The greeter alone.
-pub(crate) fn table(alloc: Global, greeter: OwnedFunction) -> Mem<FunctionTable> {
-    let mut entries = Vec::new(alloc);
-    let name = TypeName {
+/// The greeter's name.
+pub(crate) fn greeter_name(alloc: Global) -> Mem<TypeName> {
+    Ok(TypeName {
         namespace: Text::copy_of(alloc, "com.example")?,
         name: Text::copy_of(alloc, "greeter")?,
-    };
-    entries.push((name, greeter))?;
-    Ok(FunctionTable::new(entries))
+    })
 }

@@ -17,9 +17,12 @@ pub(crate) fn run(rt: &HostRuntime, records: u32, letters: u32) -> Mem<u8> {
     let words = words(alloc)?;
     let mut file = MemorySource::steady(alloc, file(alloc, letters)?)?;
     let mut ingress = MemoryIngress::steady(alloc, splits(alloc, records)?)?;
+    let mut entries = Vec::new(alloc);
     let greeter: OwnedFunction = Box::new(alloc, Greeter)?;
+    entries.push((name(alloc, "greeter")?, greeter))?;
     let total: OwnedFunction = Box::new(alloc, Total)?;
-    let mut link = Answering::new(alloc, table(alloc, greeter, total)?);
+    entries.push((name(alloc, "total")?, total))?;
+    let mut link = Answering::new(alloc, FunctionTable::new(entries));
     let mut clock = ScriptClock::steady(alloc, List::new(alloc))?;
     let mut out = WriterSink::new(rt.stdout());
     let made = statefun_run(
@@ -69,14 +72,6 @@ fn record(alloc: Global, place: u32) -> Mem<IngressRecord> {
         key: Text::copy_of(alloc, format!(in alloc; "k{key}")?.as_str())?,
         value: value.value,
     })
-}
-
-/// The functions.
-fn table(alloc: Global, greeter: OwnedFunction, total: OwnedFunction) -> Mem<FunctionTable> {
-    let mut entries = Vec::new(alloc);
-    entries.push((name(alloc, "greeter")?, greeter))?;
-    entries.push((name(alloc, "total")?, total))?;
-    Ok(FunctionTable::new(entries))
 }
 
 fn name(alloc: Global, name: &str) -> Mem<TypeName> {

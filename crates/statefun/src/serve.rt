@@ -54,9 +54,12 @@ fn serve_port<R>(rt: &R, alloc: Global, port: u16) -> Mem<u8>
 where
     R: Net<Listener = TcpListener, Stream = TcpStream> + Print + Threads + Wait,
 {
+    let mut entries = Vec::new(alloc);
     let greeter: OwnedFunction = Box::new(alloc, Greeter)?;
+    entries.push((name(alloc, "greeter")?, greeter))?;
     let total: OwnedFunction = Box::new(alloc, Total)?;
-    let table = table(alloc, greeter, total)?;
+    entries.push((name(alloc, "total")?, total))?;
+    let table = FunctionTable::new(entries);
     let Ok(listener) = TcpListener::bind(rt, ("127.0.0.1", port)) else {
         return Ok(told(print!(rt; "no listener\n"), NO_LISTENER));
     };
@@ -65,14 +68,6 @@ where
     }
     serve(rt, alloc, &listener, &table);
     Ok(0)
-}
-
-/// The demonstration functions.
-fn table(alloc: Global, greeter: OwnedFunction, total: OwnedFunction) -> Mem<FunctionTable> {
-    let mut entries = Vec::new(alloc);
-    entries.push((name(alloc, "greeter")?, greeter))?;
-    entries.push((name(alloc, "total")?, total))?;
-    Ok(FunctionTable::new(entries))
 }
 
 fn name(alloc: Global, name: &str) -> Mem<TypeName> {
