@@ -11,3 +11,4 @@ mod WholeFolder
 mod Loads
 mod KeptCheckpoints
 mod OneThing
+pub mod Owned
