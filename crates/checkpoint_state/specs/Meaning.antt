@@ -50,8 +50,10 @@ pub record IsSound (m : Module) (told : Lists) (contents : Contents) : Type 0 wh
 abbrev pub with_only : List Checkpoint → Contents → Contents
 with_only checkpoints contents = record contents { checkpoints = checkpoints }
 
--- So is that of each checkpoint, and no call stands in two entries or is of a leg that no run had.
+-- So is that of each checkpoint; neither the newest one, and so no entry, nor a call is of a leg behind the stored one; and no call
+-- stands in two entries.
 pub record IsGood (m : Module) (told : Lists) (contents : Contents) : Type 0 where
   pub each : (front behind : List Checkpoint) → contents.checkpoints ≡ front ++ behind → IsSound m told (with_only front contents)
+  pub newest : (loaded_of contents).leg ≤ contents.leg
   pub calls : AllByRecursion (λ call. call.leg ≤ contents.leg) (calls_of (record_of contents))
   pub distinct : IsDistinct same_call (calls_of (record_of contents))

@@ -1,0 +1,4 @@
+pub mod Records
+pub mod Stored
+pub mod Good
+pub mod Egress
