@@ -7,22 +7,21 @@ use Rattle.typed_values.specs.declared.value.TypedValue.{TypedValue}
 use Rattle.typed_values.specs.declared.record.EgressRecord.{EgressRecord}
 use Rattle.sf_outside.specs.declared.call.Exchange.{Exchange}
 use Rattle.sf_outside.specs.declared.ingress.IngressRecord.{IngressRecord}
-use Rattle.sf_outside.specs.Splits.{Lists, GrowTo}
-use Rattle.sf_outside.specs.Answers.{Extends}
+use Rattle.sf_outside.specs.Splits.{Lists}
 use Rattle.address_routing.specs.declared.module.Module.{Module}
 use Rattle.run_record.specs.declared.entry.Entry.{Entry}
 use Rattle.run_record.specs.declared.entry.Reply.{Reply}
 use Rattle.run_record.specs.declared.entry.Step.{Step}
 use Rattle.run_record.specs.Machine.{State, Act, first_state, arguments_at, actor_of, reply_of, acted, made, step_with}
 use Rattle.run_record.specs.Record.{next_record, step_after, replayed}
-use Rattle.run_record.specs.Backed.{IsBackedReply, IsBackedStep, AreBacked}
+use Rattle.run_record.specs.Backed.{IsBackedReply, AreBacked}
 use Rattle.run_record.specs.Egress.{egress_of}
 use Rattle.run_record.proofs.Backing.{AreBacked-more, AreBacked-grown, AreBacked-append}
 use Rattle.run_record.proofs.Steps.{replayed-grown}
 use Rattle.partition_core.specs.Work.{Work, state_of}
-use Rattle.folder_form.specs.Folders.{Contents, record_of}
-use Rattle.checkpoint_state.specs.Meaning.{given_by, state_in, IsSound, IsGood}
-use Rattle.checkpoint_state.specs.Laws.{behind, EgressChangesNoStep, WorkLeadsOn, EgressBacksNoStep, BackingGrows, NextIsBacked, EntriesLeadToTheNext}
+use Rattle.folder_form.specs.Folders.{record_of}
+use Rattle.checkpoint_state.specs.Meaning.{given_by, state_in, IsSound}
+use Rattle.checkpoint_state.specs.Laws.{given_before, EgressChangesNoStep, WorkLeadsOn, EgressBacksNoStep, BackingGrows, NextIsBacked, EntriesLeadToTheNext}
 use Rattle.checkpoint_state.proofs.Stored.{arguments_at-append, given-with, work_is_stored}
 
 abbrev Egress : Type 0
@@ -30,39 +29,39 @@ Egress = Address → TypeName → List TypedValue
 
 -- ---- one step
 
-acted-behind : (before : Egress) (st : State) (step : Step) (act : Act) → acted step act (behind before st) ≡ behind before (acted step act st)
+acted-behind : (before : Egress) (st : State) (step : Step) (act : Act) → acted step act (given_before before st) ≡ given_before before (acted step act st)
 acted-behind before st step act = λ i. record {
   own = (acted step act st).own;
   mail = (acted step act st).mail;
   egress = λ address name. append_assoc (before address name) (st.egress address name) (arguments_at address name act.egress) i;
 }
 
-step-behind : (m : Module) (found : Option IngressRecord) (before : Egress) (st : State) (step : Step) → step_with m found (behind before st) step ≡ option_map (behind before) (step_with m found st step)
+step-behind : (m : Module) (found : Option IngressRecord) (before : Egress) (st : State) (step : Step) → step_with m found (given_before before st) step ≡ option_map (given_before before) (step_with m found st step)
 unfolding made
 step-behind m found before st step = by (made m found st step)
   where
-    by : (o : Option Act) → option_map (λ act. acted step act (behind before st)) o ≡ option_map (behind before) (option_map (λ act. acted step act st) o)
+    by : (o : Option Act) → option_map (λ act. acted step act (given_before before st)) o ≡ option_map (given_before before) (option_map (λ act. acted step act st) o)
     by None = refl
     by (Some act) = ap Some (acted-behind before st step act)
 
 -- ---- a record
 
-replayed-behind : (m : Module) (told : Lists) (before : Egress) (st : State) (entries : List Entry) → replayed m told (behind before st) entries ≡ option_map (behind before) (replayed m told st entries)
+replayed-behind : (m : Module) (told : Lists) (before : Egress) (st : State) (entries : List Entry) → replayed m told (given_before before st) entries ≡ option_map (given_before before) (replayed m told st entries)
 replayed-behind m told before st [] = refl
 replayed-behind m told before st (entry ∷ entries) =
     ap (option_and_then (λ next. replayed m told next entries)) (step-behind m (next_record told (actor_of entry.step) (st.own (actor_of entry.step))) before st entry.step)
     ∙ by (λ next. replayed-behind m told before next entries) (step_after m told st entry.step)
   where
-    by : ((next : State) → replayed m told (behind before next) entries ≡ option_map (behind before) (replayed m told next entries)) → (o : Option State) → option_and_then (λ next. replayed m told next entries) (option_map (behind before) o) ≡ option_map (behind before) (option_and_then (λ next. replayed m told next entries) o)
+    by : ((next : State) → replayed m told (given_before before next) entries ≡ option_map (given_before before) (replayed m told next entries)) → (o : Option State) → option_and_then (λ next. replayed m told next entries) (option_map (given_before before) o) ≡ option_map (given_before before) (option_and_then (λ next. replayed m told next entries) o)
     by rest None = refl
     by rest (Some next) = rest next
 
 pub egress_changes_no_step : EgressChangesNoStep
-egress_changes_no_step m told before st last entries e = replayed-behind m told before st entries ∙ ap (option_map (behind before)) e
+egress_changes_no_step m told before st last entries e = replayed-behind m told before st entries ∙ ap (option_map (given_before before)) e
 
 -- ---- work
 
-work-behind : (counts : ℕ → ℕ) (before given : List EgressRecord) (work : Work) → behind (λ address name. arguments_at address name before) (state_of counts given work) ≡ state_of counts (before ++ given) work
+work-behind : (counts : ℕ → ℕ) (before given : List EgressRecord) (work : Work) → given_before (λ address name. arguments_at address name before) (state_of counts given work) ≡ state_of counts (before ++ given) work
 unfolding state_of
 work-behind counts before given work = λ i. record {
   own = (state_of counts given work).own;
@@ -70,7 +69,7 @@ work-behind counts before given work = λ i. record {
   egress = λ address name. sym (arguments_at-append address name before given) i;
 }
 
-first-behind : (counts : ℕ → ℕ) (before : List EgressRecord) (work : Work) → behind (λ address name. arguments_at address name before) (state_of counts [] work) ≡ state_of counts before work
+first-behind : (counts : ℕ → ℕ) (before : List EgressRecord) (work : Work) → given_before (λ address name. arguments_at address name before) (state_of counts [] work) ≡ state_of counts before work
 first-behind counts before work = work-behind counts before [] work ∙ ap (λ given. state_of counts given work) (append-nil before)
 
 pub work_leads_on : WorkLeadsOn
@@ -82,11 +81,11 @@ work_leads_on m told counts after before given work left entries e =
 
 -- ---- backing
 
-reply-behind : (exchanges : List Exchange) (m : Module) (before : Egress) (st : State) (o : Option Reply) → IfSome o (IsBackedReply exchanges m st) → IfSome o (IsBackedReply exchanges m (behind before st))
+reply-behind : (exchanges : List Exchange) (m : Module) (before : Egress) (st : State) (o : Option Reply) → IfSome o (IsBackedReply exchanges m st) → IfSome o (IsBackedReply exchanges m (given_before before st))
 reply-behind exchanges m before st None h = h
 reply-behind exchanges m before st (Some reply) h = record { request = h.request; asked = h.asked; url = h.url; at_url = h.at_url; exchanged = h.exchanged }
 
-backed-behind : (exchanges : List Exchange) (m : Module) (told : Lists) (before : Egress) (st : State) (entries : List Entry) → AreBacked exchanges m told st entries → AreBacked exchanges m told (behind before st) entries
+backed-behind : (exchanges : List Exchange) (m : Module) (told : Lists) (before : Egress) (st : State) (entries : List Entry) → AreBacked exchanges m told st entries → AreBacked exchanges m told (given_before before st) entries
 backed-behind exchanges m told before st [] h = h
 backed-behind exchanges m told before st (entry ∷ entries) h = (
   reply-behind exchanges m before st (reply_of entry.step) h.0,
@@ -94,7 +93,7 @@ backed-behind exchanges m told before st (entry ∷ entries) h = (
       (by (λ next. backed-behind exchanges m told before next entries) (step_after m told st entry.step) h.1),
 )
   where
-    by : ((next : State) → AreBacked exchanges m told next entries → AreBacked exchanges m told (behind before next) entries) → (o : Option State) → IfSome o (λ next. AreBacked exchanges m told next entries) → IfSome (option_map (behind before) o) (λ next. AreBacked exchanges m told next entries)
+    by : ((next : State) → AreBacked exchanges m told next entries → AreBacked exchanges m told (given_before before next) entries) → (o : Option State) → IfSome o (λ next. AreBacked exchanges m told next entries) → IfSome (option_map (given_before before) o) (λ next. AreBacked exchanges m told next entries)
     by rest None k = k
     by rest (Some next) k = rest next k
 

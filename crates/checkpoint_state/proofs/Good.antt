@@ -2,7 +2,7 @@
 use mathlib.Core.Path.{fun_ext}
 use Rattle.std.proofs.Common.{◌⊎◌, inl, inr, ◌≡◌, ◌∙◌, sym, ap, refl, subst, ℕ, ◌<◌, ◌≤◌, List, [], ◌∷◌, ◌++◌, false, Some, option_and_then, arith, append_assoc}
 use Rattle.std.specs.Prelude.{max}
-use Rattle.std.specs.List.{AllByRecursion, IsDistinct, flat_map}
+use Rattle.std.specs.List.{AllByRecursion, IsDistinct}
 use Rattle.std.specs.Option.{option_map, option_to_list}
 use Rattle.std.proofs.lemmas.List.{append-nil}
 use Rattle.std.proofs.lemmas.Bool.Decides.{nat_tests}
@@ -10,7 +10,7 @@ use Rattle.std.proofs.Math.Nat.{le-max_left, le-max_right}
 use Rattle.typed_values.specs.declared.letter.Sender.{Sender}
 use Rattle.typed_values.specs.declared.letter.Sender.TheVariants.{Split, Function}
 use Rattle.sf_outside.specs.declared.call.Call.{Call}
-use Rattle.sf_outside.specs.Splits.{Lists, GrowTo}
+use Rattle.sf_outside.specs.Splits.{Lists}
 use Rattle.address_routing.specs.declared.module.Module.{Module}
 use Rattle.actor_rules.proofs.Lists.{all-append, all-map}
 use Rattle.run_record.specs.declared.entry.Entry.{Entry}
@@ -21,10 +21,10 @@ use Rattle.run_record.specs.Backed.{calls_of, same_call}
 use Rattle.run_record.proofs.Steps.{replayed-append, replayed-grown}
 use Rattle.folder_form.specs.declared.mark.Mark.{Mark}
 use Rattle.folder_form.specs.declared.loaded.Loaded.{Loaded}
-use Rattle.folder_form.specs.Folders.{Part, Checkpoint, Contents, no_contents, with_leg, with_checkpoint, loaded_checkpoint, loaded_from, nothing_loaded, loaded_of, record_of, entry_lists}
+use Rattle.folder_form.specs.Folders.{Part, Checkpoint, Contents, no_contents, with_checkpoint, nothing_loaded, loaded_of, record_of}
 use Rattle.checkpoint_state.specs.Stored.{stored_own, stored_state}
 use Rattle.checkpoint_state.specs.Meaning.{state_in, moment_of, IsWithin, with_only, IsSound, IsGood}
-use Rattle.checkpoint_state.specs.Laws.{AreParted, IsFrom, IsNext, HaveGrown, NextKeepsGood, NoneIsGood, LegsKeepGood, ListsKeepGood}
+use Rattle.checkpoint_state.specs.Laws.{IsFrom, IsNext, NextKeepsGood, NoneIsGood, LegsKeepGood, ListsKeepGood}
 use Rattle.checkpoint_state.proofs.Records.{records_grow}
 use Rattle.checkpoint_state.proofs.Stored.{newest_is_loaded}
 
@@ -152,7 +152,7 @@ none_in_front : (front behind : List Checkpoint) → [] ≡ front ++ behind → 
 none_in_front [] behind e = refl
 none_in_front (f ∷ front) behind e = absurd cc
 
-none_state : first_state ≡ state_in no_contents
+pub none_state : first_state ≡ state_in no_contents
 unfolding loaded_of stored_state arguments_of arguments_at
 none_state = λ i. record { own = fun_ext own i; mail = λ sender target. []; egress = λ address name. [] }
   where

@@ -2,3 +2,4 @@ pub mod Records
 pub mod Stored
 pub mod Good
 pub mod Egress
+pub mod Examples

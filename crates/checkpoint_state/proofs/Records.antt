@@ -1,5 +1,5 @@
 -- Entries of later legs stand behind a record, whether they are takes or not.
-use Rattle.std.proofs.Common.{◌≡◌, ◌∙◌, sym, ap, refl, subst, ℕ, ◌<◌, ◌≤◌, List, [], ◌∷◌, ◌++◌, Bool, true, false, cond, filter, arith}
+use Rattle.std.proofs.Common.{◌≡◌, ◌∙◌, sym, ap, refl, ℕ, ◌<◌, ◌≤◌, List, [], ◌∷◌, ◌++◌, Bool, true, false, cond, filter, arith}
 use Rattle.std.specs.Prelude.{not}
 use Rattle.std.specs.List.{AllByRecursion, flat_map}
 use Rattle.std.proofs.lemmas.List.{append-nil}
@@ -10,8 +10,8 @@ use Rattle.actor_rules.proofs.Lists.{all-append, all-map, all-filter}
 use Rattle.run_record.specs.declared.entry.Entry.{Entry}
 use Rattle.run_record.specs.Record.{key_before, placed, merged_behind, merged}
 use Rattle.folder_form.specs.declared.mark.Mark.{Mark}
-use Rattle.folder_form.specs.Folders.{Part, Checkpoint, Contents, with_checkpoint, takes, entry_lists, record_of}
-use Rattle.checkpoint_state.specs.Laws.{AreParted, RecordsGrow}
+use Rattle.folder_form.specs.Folders.{Part, Contents, with_checkpoint, takes, entry_lists, record_of}
+use Rattle.checkpoint_state.specs.Laws.{RecordsGrow}
 
 -- ---- keys
 

@@ -1,13 +1,10 @@
 -- A checkpoint stands for the work that it keeps.
 use mathlib.Core.Path.{fun_ext}
-use Rattle.std.proofs.Common.{◌≡◌, ◌∙◌, sym, ap, refl, subst, ℕ, List, [], ◌∷◌, ◌++◌, Bool, true, false, cond, map, filter, append-nil}
-use Rattle.std.specs.Prelude.{◌&&◌}
-use Rattle.std.specs.List.{flat_map}
+use Rattle.std.proofs.Common.{◌≡◌, ◌∙◌, sym, ap, refl, ℕ, List, [], ◌∷◌, ◌++◌, Bool, true, false, cond, map, filter, append-nil}
 use Rattle.std.proofs.lemmas.List.{map-append}
 use Rattle.std.proofs.lemmas.List.Elements.{filter-append}
 use Rattle.typed_values.specs.declared.name.TypeName.{TypeName}
 use Rattle.typed_values.specs.declared.address.Address.{Address}
-use Rattle.typed_values.specs.declared.value.TypedValue.{TypedValue}
 use Rattle.typed_values.specs.declared.letter.Sender.{Sender}
 use Rattle.typed_values.specs.declared.letter.Sender.TheVariants.{Split, Function}
 use Rattle.typed_values.specs.declared.letter.Letter.{Letter}
@@ -16,10 +13,9 @@ use Rattle.typed_values.specs.Sameness.{same_sender, same_address}
 use Rattle.typed_values.proofs.Sameness.{same_address-Decides}
 use Rattle.std.proofs.lemmas.Bool.{and_parts}
 use Rattle.std.proofs.lemmas.Grind.{flat_map-append}
-use Rattle.batch_queue.specs.Post.{no_post, put, IsAll}
-use Rattle.run_record.specs.Machine.{State, Mail, Own, is_of_pair, is_between, arguments_of, arguments_at}
+use Rattle.batch_queue.specs.Post.{no_post}
+use Rattle.run_record.specs.Machine.{is_of_pair, is_between, arguments_of, arguments_at}
 use Rattle.run_record.proofs.Senders.{arguments_of-append}
-use Rattle.piece_messages.specs.declared.piece.Piece.{Piece}
 use Rattle.piece_messages.specs.Stands.{own_at}
 use Rattle.partition_core.specs.Work.{Work, is_from, own_in, mail_in, state_of, put_all}
 use Rattle.partition_core.specs.Restored.{kept_work}
@@ -28,8 +24,8 @@ use Rattle.folder_form.specs.declared.loaded.Loaded.{Loaded}
 use Rattle.folder_form.specs.declared.mark.Mark.{Mark}
 use Rattle.folder_form.specs.Folders.{Part, Checkpoint, Contents, with_checkpoint, loaded_checkpoint, loaded_from, nothing_loaded, loaded_of, egress_in}
 use Rattle.checkpoint_state.specs.Stored.{states_in, delays_in, letters_in, on_the_way, stored_own, stored_mail, stored_state}
-use Rattle.checkpoint_state.specs.Meaning.{given_by, state_in}
-use Rattle.checkpoint_state.specs.Laws.{TheLastIsLoaded, counts_in, IsKeptIn, IsOf, CheckpointsAreWork, WorkIsStored}
+use Rattle.checkpoint_state.specs.Meaning.{given_by}
+use Rattle.checkpoint_state.specs.Laws.{TheLastIsLoaded, counts_in, IsOf, CheckpointsAreWork, WorkIsStored}
 
 -- ---- arguments
 

@@ -48,6 +48,7 @@ TheLastIsLoaded = (mark : Mark) (parts : List Part) (contents : Contents) → lo
 
 -- ---- good contents stay good
 
+-- a leg behind a bound, and not behind the last
 abbrev pub IsFrom : ℕ → ℕ → ℕ → Type 0
 IsFrom bound last leg = (bound < leg) × (leg ≤ last)
 
@@ -80,7 +81,7 @@ NextKeepsGood =
     → IsGood m told contents → IsNext m told contents bound entries mark part
     → HaveGrown m told contents entries mark (with_checkpoint mark (part ∷ []) contents)
 
--- contents without a checkpoint, of whatever leg
+-- where nothing stands
 abbrev pub NoneIsGood : Type 0
 NoneIsGood = (m : Module) (told : Lists) → IsGood m told no_contents
 
@@ -95,21 +96,22 @@ ListsKeepGood = (m : Module) (old new : Lists) (contents : Contents) → GrowTo 
 -- ---- no step looks at egress
 
 -- what was given before stands in front
-abbrev pub behind : (Address → TypeName → List TypedValue) → State → State
-behind before st = record st { egress = λ address name. before address name ++ st.egress address name }
+abbrev pub given_before : (Address → TypeName → List TypedValue) → State → State
+given_before before st = record st { egress = λ address name. before address name ++ st.egress address name }
 
 abbrev pub EgressChangesNoStep : Type 0
 EgressChangesNoStep =
     (m : Module) (told : Lists) (before : Address → TypeName → List TypedValue) (st last : State) (entries : List Entry)
-    → replayed m told st entries ≡ Some last → replayed m told (behind before st) entries ≡ Some (behind before last)
+    → replayed m told st entries ≡ Some last → replayed m told (given_before before st) entries ≡ Some (given_before before last)
 
--- so a record that leads from work to work does so whatever was given before, and is backed
+-- so a record that leads from work to work does so whatever was given before
 abbrev pub WorkLeadsOn : Type 0
 WorkLeadsOn =
     (m : Module) (told : Lists) (counts after : ℕ → ℕ) (before given : List EgressRecord) (work left : Work) (entries : List Entry)
     → replayed m told (state_of counts [] work) entries ≡ Some (state_of after given left)
     → replayed m told (state_of counts before work) entries ≡ Some (state_of after (before ++ given) left)
 
+-- and is backed
 abbrev pub EgressBacksNoStep : Type 0
 EgressBacksNoStep =
     (exchanges : List Exchange) (m : Module) (told : Lists) (counts : ℕ → ℕ) (before : List EgressRecord) (work : Work) (entries : List Entry)
@@ -152,7 +154,7 @@ pub record IsKeptIn (piece : Piece) (work : Work) : Type 0 where
   pub seen : seen_at piece.states ≡ work.seen
   pub delays : piece.delays ≡ work.delays
 
--- A checkpoint of one partition that keeps a work, with these counts and nothing on the way.
+-- a checkpoint of one partition that keeps a work, with these counts and nothing on the way
 pub record IsOf (mark : Mark) (part : Part) (counts : ℕ → ℕ) (work : Work) : Type 0 where
   pub taken : counts_in mark.taken ≡ counts
   pub kept : IsKeptIn part.piece work

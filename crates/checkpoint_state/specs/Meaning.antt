@@ -1,16 +1,13 @@
 -- What the checkpoints of a folder mean: each is what the sequential machine gives on the record up to it.
-use Rattle.std.specs.Prelude.{◌≡◌, ◌≤◌, ℕ, List, [], ◌∷◌, ◌++◌, Some}
+use Rattle.std.specs.Prelude.{◌≡◌, ◌≤◌, ℕ, List, ◌++◌, Some}
 use Rattle.std.specs.List.{AllByRecursion, IsDistinct, flat_map}
-use Rattle.std.specs.Option.{option_map_or}
 use Rattle.typed_values.specs.declared.record.EgressRecord.{EgressRecord}
 use Rattle.sf_outside.specs.Splits.{Lists}
-use Rattle.sf_outside.specs.declared.call.Call.{Call}
 use Rattle.address_routing.specs.declared.module.Module.{Module}
 use Rattle.run_record.specs.declared.entry.Entry.{Entry}
-use Rattle.run_record.specs.declared.entry.Reply.{Reply}
 use Rattle.run_record.specs.declared.entry.Step.{Step}
 use Rattle.run_record.specs.declared.entry.Step.TheVariants.{Take, Batch, Register, Due}
-use Rattle.run_record.specs.Machine.{State, first_state, reply_of}
+use Rattle.run_record.specs.Machine.{State, first_state}
 use Rattle.run_record.specs.Record.{replayed}
 use Rattle.run_record.specs.Backed.{calls_of, same_call}
 use Rattle.folder_form.specs.Folders.{Checkpoint, Contents, loaded_of, record_of, egress_in}
@@ -38,9 +35,6 @@ moment_of (Due address moment) = moment
 -- no entry stems from a later leg, and none has a later moment
 abbrev pub IsWithin : ℕ → ℕ → Entry → Type 0
 IsWithin leg moment entry = (entry.leg ≤ leg) × (moment_of entry.step ≤ moment)
-
-abbrev pub leg_of : Call → ℕ
-leg_of call = call.leg
 
 -- The record of a checkpoint and of all before it.
 pub record IsSound (m : Module) (told : Lists) (contents : Contents) : Type 0 where
