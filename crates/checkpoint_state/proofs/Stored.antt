@@ -18,7 +18,7 @@ use Rattle.run_record.specs.Machine.{is_of_pair, is_between, arguments_of, argum
 use Rattle.run_record.proofs.Senders.{arguments_of-append}
 use Rattle.piece_messages.specs.Stands.{own_at}
 use Rattle.partition_core.specs.Work.{Work, is_from, own_in, mail_in, state_of, put_all}
-use Rattle.partition_core.specs.Restored.{kept_work}
+use Rattle.partition_core.specs.KeptWork.{kept_work}
 use Rattle.partition_core.proofs.Posting.{put_all_mail}
 use Rattle.folder_form.specs.declared.loaded.Loaded.{Loaded}
 use Rattle.folder_form.specs.declared.mark.Mark.{Mark}

@@ -20,7 +20,7 @@ use Rattle.run_record.specs.Egress.{egress_of}
 use Rattle.piece_messages.specs.declared.piece.Piece.{Piece}
 use Rattle.piece_messages.specs.Stands.{cells_at, seen_at}
 use Rattle.partition_core.specs.Work.{Work, state_of}
-use Rattle.partition_core.specs.Restored.{kept_work}
+use Rattle.partition_core.specs.KeptWork.{kept_work}
 use Rattle.folder_form.specs.declared.mark.Mark.{Mark}
 use Rattle.folder_form.specs.declared.loaded.Loaded.{Loaded}
 use Rattle.folder_form.specs.Folders.{Part, Contents, no_contents, with_leg, with_checkpoint, takes, loaded_checkpoint, loaded_of, record_of}
