@@ -1,16 +1,13 @@
 -- What the checkpoints of a folder mean: each is what the sequential machine gives on the record up to it.
-use Rattle.std.specs.Prelude.{◌≡◌, ◌≤◌, ℕ, List, [], ◌∷◌, ◌++◌, Some}
+use Rattle.std.specs.Prelude.{◌≡◌, ◌≤◌, ℕ, List, ◌++◌, Some}
 use Rattle.std.specs.List.{AllByRecursion, IsDistinct, flat_map}
-use Rattle.std.specs.Option.{option_map_or}
 use Rattle.typed_values.specs.declared.record.EgressRecord.{EgressRecord}
 use Rattle.sf_outside.specs.Splits.{Lists}
-use Rattle.sf_outside.specs.declared.call.Call.{Call}
 use Rattle.address_routing.specs.declared.module.Module.{Module}
 use Rattle.run_record.specs.declared.entry.Entry.{Entry}
-use Rattle.run_record.specs.declared.entry.Reply.{Reply}
 use Rattle.run_record.specs.declared.entry.Step.{Step}
 use Rattle.run_record.specs.declared.entry.Step.TheVariants.{Take, Batch, Register, Due}
-use Rattle.run_record.specs.Machine.{State, first_state, reply_of}
+use Rattle.run_record.specs.Machine.{State, first_state}
 use Rattle.run_record.specs.Record.{replayed}
 use Rattle.run_record.specs.Backed.{calls_of, same_call}
 use Rattle.folder_form.specs.Folders.{Checkpoint, Contents, loaded_of, record_of, egress_in}
@@ -39,9 +36,6 @@ moment_of (Due address moment) = moment
 abbrev pub IsWithin : ℕ → ℕ → Entry → Type 0
 IsWithin leg moment entry = (entry.leg ≤ leg) × (moment_of entry.step ≤ moment)
 
-abbrev pub leg_of : Call → ℕ
-leg_of call = call.leg
-
 -- The record of a checkpoint and of all before it.
 pub record IsSound (m : Module) (told : Lists) (contents : Contents) : Type 0 where
   pub replays : Replays m told contents
@@ -50,8 +44,10 @@ pub record IsSound (m : Module) (told : Lists) (contents : Contents) : Type 0 wh
 abbrev pub with_only : List Checkpoint → Contents → Contents
 with_only checkpoints contents = record contents { checkpoints = checkpoints }
 
--- So is that of each checkpoint, and no call stands in two entries or is of a leg that no run had.
+-- So is that of each checkpoint; neither the newest one, and so no entry, nor a call is of a leg behind the stored one; and no call
+-- stands in two entries.
 pub record IsGood (m : Module) (told : Lists) (contents : Contents) : Type 0 where
   pub each : (front behind : List Checkpoint) → contents.checkpoints ≡ front ++ behind → IsSound m told (with_only front contents)
+  pub newest : (loaded_of contents).leg ≤ contents.leg
   pub calls : AllByRecursion (λ call. call.leg ≤ contents.leg) (calls_of (record_of contents))
   pub distinct : IsDistinct same_call (calls_of (record_of contents))

@@ -1,6 +1,6 @@
 mod Idle
 mod Changing
-mod Posting
+pub mod Posting
 mod Delaying
 mod TheMachine
 mod Fitting

@@ -1,4 +1,5 @@
 pub mod Work
 pub mod Batches
 pub mod Kept
+pub mod KeptWork
 pub mod Laws

@@ -1,0 +1,5 @@
+pub mod Records
+pub mod Stored
+pub mod Good
+pub mod Egress
+pub mod Examples
