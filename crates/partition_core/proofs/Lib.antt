@@ -6,3 +6,7 @@ mod TheMachine
 mod Fitting
 mod Sending
 mod InTurn
+mod KeptCells
+mod KeptStates
+mod PutBack
+mod KeptWaiting
