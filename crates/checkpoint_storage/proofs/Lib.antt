@@ -1,3 +1,3 @@
 pub mod Images
 pub mod Calls
-pub mod Saving
+pub mod Saves

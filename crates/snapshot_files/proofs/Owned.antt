@@ -1,5 +1,5 @@
 -- What is read of a partition belongs to it, whether the disk tells or not.
-use Rattle.std.proofs.Common.{◌≡◌, ℕ, ◌+◌, Bool, true, false, List, [], ◌∷◌, ◌++◌, length, Option, Some, None, Result, Ok, Err, IfOk, sym, ◌∙◌, ap, subst, arith}
+use Rattle.std.proofs.Common.{◌≡◌, refl, ℕ, ◌+◌, Bool, true, false, if◌then◌else◌, List, [], ◌∷◌, ◌++◌, length, Option, Some, None, Result, Ok, Err, IfOk, sym, ◌∙◌, ap, subst, arith}
 use Rattle.typed_values.specs.declared.letter.Letter.{Letter}
 use Rattle.block_log.specs.Blocks.{Body}
 use Rattle.piece_messages.specs.declared.piece.Piece.{Piece}
