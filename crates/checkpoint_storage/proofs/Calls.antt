@@ -1,6 +1,7 @@
 -- What the calls on a storage's store and outlet make of both.
 use Rattle.std.proofs.Common.{◌≡◌, ◌≢◌, ◌⊎◌, inl, inr, ℕ, zero, suc, ◌+◌, ◌-◌, ◌<◌, ◌≤◌, List, [], ◌∷◌, ◌++◌, length, slice_get, Option, Some, None, option_map, Result, Ok, Err, IfOk, IfErr, refl, sym, ◌∙◌, ap, subst, arith, append-nil}
 use Rattle.std.specs.Option.{option_to_list}
+use Rattle.std.proofs.lemmas.Option.{slice_get_past}
 use Rattle.sf_disk.specs.Images.{FileState, Leaves, Follows}
 use Rattle.sf_disk.specs.Moments.{Moment, Folder, IsImage, Others, InFile, Since, Becomes, WhereTold, newest}
 use Rattle.sf_disk.proofs.Onward.{since_as, since_now, since_then, becomes_as, becomes_now, becomes_then, told_now, first_told, at_now, still_told}
@@ -124,3 +125,30 @@ module _ (storage : CheckpointStorage) (number : ℕ) (egress : Epoch) (a b : Li
 
   pub committed : (outlet : Outlet) → Becomes a b (InFile 1 (Committed storage.outlet outlet egress)) → Becomes a b (Turns storage (record { store = storage.store; outlet = outlet }) (λ contents epochs. contents) with_next)
   committed outlet becomes = becomes_as a b (InFile 1 (Committed storage.outlet outlet egress)) (Turns storage (record { store = storage.store; outlet = outlet }) (λ contents epochs. contents) with_next) becomes (turned outlet)
+
+-- ---- nothing to commit
+
+all_given : (storage : CheckpointStorage) (contents : Contents) (epochs : List Epoch) (m : Moment) → last_epoch storage.outlet ≡ stores.newest storage.store → IsStorage storage contents epochs m → epochs ≡ with_next contents epochs
+all_given storage contents epochs m even is =
+    let count = counted storage.outlet epochs (m 1) is.outlet in
+    let newest_is = (is.store).newest_is in
+    sym (ap (λ (o : Option Checkpoint). epochs ++ option_to_list (option_map egress_in o)) (slice_get_past contents.checkpoints (length epochs) (omega (arith, even, count, newest_is))) ∙ append-nil epochs)
+
+pub even_turns : (storage : CheckpointStorage) (a b : List Moment) → b ≡ a → last_epoch storage.outlet ≡ stores.newest storage.store → Becomes a b (Turns storage storage (λ contents epochs. contents) with_next)
+even_turns storage a b same even = becomes_now a b (Turns storage storage (λ contents epochs. contents) with_next) same
+    (λ m told contents epochs is. record { store = is.store; outlet = subst (λ (e : List Epoch). IsOutlet storage.outlet e (m 1)) (all_given storage contents epochs m even is) is.outlet })
+
+-- ---- beginning a run
+
+begun : (storage : CheckpointStorage) (limit : ℕ) (contents : Contents) (epochs : List Epoch) (folder : Folder) → HasEpochs (folder 1) epochs
+    → HasForm folder (Some (held_by storage.store contents)) ⊎ HasForm folder (Some (held_by storage.store (with_leg limit contents)))
+    → (now : Contents) × (committed : List Epoch) × MayBegin limit contents epochs now committed × Stands storage.store.text folder now committed
+begun storage limit contents epochs folder has (inl form) = (contents, epochs, (inl refl, refl), stands_by storage.store contents epochs storage.store.text folder refl form has)
+begun storage limit contents epochs folder has (inr form) = (with_leg limit contents, epochs, (inr refl, refl), stands_by storage.store (with_leg limit contents) epochs storage.store.text folder refl form has)
+
+pub beginning : (storage : CheckpointStorage) (limit : ℕ) (a b : List Moment) → Since a b (Writes storage.store (opened_run limit)) → Since a b (LeavesAmong storage (MayBegin limit))
+beginning storage limit a b all = since_as a b (Writes storage.store (opened_run limit)) (LeavesAmong storage (MayBegin limit)) all
+    (λ m n told w contents epochs is folder image.
+    begun storage limit contents epochs folder
+    (epochs_left storage.outlet epochs (m 1) is.outlet (folder 1) (subst (λ (s : FileState). Leaves s (folder 1)) (w.others 1 (λ e. omega (arith, e))) (image 1)))
+    (w.stands contents nothing_pending (with_leg limit contents) is.store refl folder image))

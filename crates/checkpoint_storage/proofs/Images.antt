@@ -11,7 +11,6 @@ use Rattle.folder_form.specs.Folders.{Contents, Files, Held, Reading, file_of, f
 use Rattle.snapshot_files.specs.declared.store.Store.{Store}
 use Rattle.snapshot_files.specs.Stores.{most_partitions, AreLogs, HasForm, Pending, IsStore, held_by}
 use Rattle.snapshot_files.specs.Opening.{IsOther, Begins, Opens, IsJob, contents_in}
-use Rattle.snapshot_files.proofs.AllOpened.{decide}
 use Rattle.snapshot_files.proofs.Folding.{form_first}
 use Rattle.snapshot_files.proofs.OneThing.{store_stands}
 use Rattle.egress_commit.specs.declared.outlet.Outlet.{Outlet}

@@ -1,5 +1,5 @@
 //! The storage of a run's checkpoints.
-ghost use Rattle.std.specs.Prelude.{◌≡◌, ◌≤◌, ◌+◌, ◌⊎◌, ℕ, List, Some, IfOk, IfErr, IsFalse, OnOk};
+ghost use Rattle.std.specs.Prelude.{◌≡◌, ◌≤◌, ◌+◌, ◌⊎◌, ℕ, List, Some, IfOk, IfErr, IsTrue, IsFalse, OnOk, ◌↔◌};
 ghost use Rattle.sf_disk.specs.Moments.{Since, Becomes, WhereTold};
 ghost use Rattle.store_faults.specs.Faults.{HasStoreCause, IsNoRefusal, RefusesBy};
 ghost use Rattle.store_faults.specs.declared.fault.StoreFault.TheVariants.{NotAStore};
@@ -109,7 +109,7 @@ impl CheckpointStorage {
         if last == newest {
             return Ok(());
         }
-        if last + 1 != newest {
+        if !is_next(last, newest) {
             return Err(StoreFault::NotAStore {
                 file: EGRESS,
                 place: 0,
@@ -139,4 +139,11 @@ impl CheckpointStorage {
     {
         self.store.begin_run(disk, leg_limit)
     }
+}
+
+/// Whether a number is the next behind another.
+fn is_next(number: u64, other: u64) -> bool
+    ensures { IsTrue result ↔ (number + 1 ≡ other) }
+{
+    other > 0 && other - 1 == number
 }
