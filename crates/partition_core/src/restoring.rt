@@ -5,7 +5,7 @@ ghost use Rattle.typed_values.specs.Cells.{found, registered, changed, written};
 ghost use Rattle.request_reply.specs.Flaws.{mode_of};
 ghost use Rattle.state_cells.specs.Answers.{registering, modifying};
 ghost use Rattle.piece_messages.specs.Stands.{cell_of, cells_at, seen_at};
-ghost use Rattle.folder_form.specs.Pieces.{are_cells};
+ghost use Rattle.folder_form.specs.Pieces.{are_cells, most_cells, most_bytes};
 ghost use Rattle.partition_core.specs.Kept.{work_of, cells_in, seen_in};
 ghost use Rattle.partition_core.specs.KeptWork.{kept_work};
 ghost use Rattle.partition_core.specs.States.{IsRestored};
@@ -95,8 +95,8 @@ fn restored_cells(alloc: Global, kept: List<CellState>) -> Mem<Cells>
 /// Puts a cell that was kept behind the others.
 fn restore_cell(alloc: Global, cells: &mut Cells, kept: CellState) -> Mem<()>
     requires name { found kept.name cells.old ≡ None }
-    requires count { length cells.old < 64 }
-    requires size { length kept.value ≤ 1048576 }
+    requires count { length cells.old < most_cells }
+    requires size { length kept.value ≤ most_bytes }
     ensures { OnOk result (cells.new ≡ cells.old ++ cell_of kept ∷ []) }
 {
     add(cells, spec_of(alloc, &kept)?)?;
