@@ -17,6 +17,7 @@ mod Resting
 mod Moving
 mod Lined
 mod Opening
+mod Stamped
 mod Journal
 mod Standing
 mod Ways
@@ -25,4 +26,6 @@ mod Delivered
 mod Emptied
 mod Replays
 mod Backed
+mod Numbered
+mod Stretching
 mod Ended
