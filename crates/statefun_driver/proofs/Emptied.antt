@@ -10,7 +10,7 @@ use Rattle.typed_values.specs.declared.record.Delay.{Delay}
 use Rattle.typed_values.specs.Delays.{due_at}
 use Rattle.typed_values.specs.Sameness.{same_address}
 use Rattle.typed_values.proofs.Sameness.{same_address-Decides}
-use Rattle.batch_queue.specs.Post.{Post, waits, is_ready, with_letters, put, taken}
+use Rattle.batch_queue.specs.Post.{Post, waits, with_letters, put, taken}
 use Rattle.address_routing.specs.declared.module.Module.{Module}
 use Rattle.address_routing.specs.declared.module.Endpoint.{Endpoint}
 use Rattle.address_routing.specs.Routing.{splits_in, endpoint_of}

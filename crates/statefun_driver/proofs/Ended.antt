@@ -1,24 +1,21 @@
 -- Turns that came to an end are a run, with all that is said of one.
-use Rattle.std.proofs.Common.{◌≡◌, ◌∙◌, refl, sym, subst, ℕ, ◌≤◌, List, [], ◌++◌, true, false, Option, Some, None, arith, append-nil}
-use Rattle.std.specs.Prelude.{IfSome, IsTrue}
-use Rattle.std.specs.List.{AllByRecursion}
+use Rattle.std.proofs.Common.{◌≡◌, ◌∙◌, refl, sym, subst, List, [], ◌++◌, true, false, Option, Some, arith, append-nil}
+use Rattle.std.specs.Prelude.{IfSome}
 use Rattle.sf_outside.specs.Splits.{Lists}
 use Rattle.sf_outside.specs.declared.call.LinkEvent.{LinkEvent}
-use Rattle.typed_values.specs.declared.address.Address.{Address}
 use Rattle.address_routing.specs.declared.module.Module.{Module}
 use Rattle.run_record.specs.declared.entry.Entry.{Entry}
 use Rattle.run_record.specs.Machine.{State, first_state}
 use Rattle.run_record.specs.Record.{replayed}
 use Rattle.run_record.specs.Egress.{egress_of}
 use Rattle.run_record.specs.Backed.{AreBacked}
-use Rattle.partition_core.specs.Work.{no_work, state_of}
+use Rattle.partition_core.specs.Work.{state_of}
 use Rattle.statefun_driver.specs.declared.end.Broken.TheVariants.{Memory}
-use Rattle.statefun_driver.specs.declared.end.End.{End}
 use Rattle.statefun_driver.specs.declared.end.End.TheVariants.{Broke}
 use Rattle.statefun_driver.specs.Seen.{Seen}
 use Rattle.statefun_driver.specs.Turns.{Plan, Control, no_origin, first_control}
 use Rattle.statefun_driver.specs.Traces.{Ends, IsUnbroken, IsFront}
-use Rattle.statefun_driver.specs.Runs.{Replays, HasState, IsFresh, IsBackedRun, IsRun}
+use Rattle.statefun_driver.specs.Runs.{Replays, HasState, IsFresh, IsBackedRun}
 use Rattle.statefun_driver.specs.Origins.{IsSoundOrigin}
 use Rattle.statefun_driver.specs.Stretches.{base_of, ReplaysBehind, AreUpTo, IsBackedBehind}
 use Rattle.statefun_driver.specs.Laws.{EndsAreRuns, TracesAreStretches}

@@ -6,6 +6,7 @@ mod Dues
 mod Rows
 mod Calls
 mod Recorded
+mod Parting
 mod Turning
 mod Batches
 mod Trying

@@ -1,5 +1,5 @@
 -- The entries of turns are numbered: their keys rise, and none is of another turn or of a later moment.
-use Rattle.std.proofs.Common.{◌≡◌, ◌∙◌, refl, sym, ap, subst, ℕ, zero, suc, ◌+◌, ◌-◌, ◌<◌, ◌≤◌, List, [], ◌∷◌, ◌++◌, length, length-append, Bool, true, false, cond, Option, Some, None, option_map, arith, nat_lt, nat_eq, ltb-false, lt-ltb, eq-eqb}
+use Rattle.std.proofs.Common.{◌≡◌, ◌∙◌, refl, sym, ap, subst, ℕ, ◌+◌, ◌-◌, ◌<◌, ◌≤◌, List, [], ◌∷◌, ◌++◌, length, length-append, Bool, true, false, cond, Option, Some, None, option_map, arith, nat_lt, nat_eq, ltb-false, lt-ltb, eq-eqb}
 use Rattle.std.specs.Prelude.{IfSome, ◌&&◌, ◌||◌, max}
 use Rattle.std.specs.Option.{option_to_list}
 use Rattle.std.specs.List.{AllByRecursion}
@@ -13,16 +13,15 @@ use Rattle.run_record.specs.declared.entry.Step.TheVariants as step
 use Rattle.run_record.specs.Machine.{Act, reply_of, took, served, declared, sent_later}
 use Rattle.run_record.specs.Record.{key_before}
 use Rattle.run_record.specs.Backed.{calls_of}
-use Rattle.partition_core.specs.Batches.{opened_at}
 use Rattle.statefun_driver.specs.declared.end.End.{End}
 use Rattle.statefun_driver.specs.declared.end.End.TheVariants.{TurnsSpent, EndpointFailed}
 use Rattle.statefun_driver.specs.Seen.{Event}
 use Rattle.statefun_driver.specs.Turns.{Plan, Control, Origin, Phase, Reading, Asking, Opening, Waiting, Stopped, Asked, at, begun, entry_of, recorded, own_now, reply_to, first_control, goes_on_behind, taken_in}
-use Rattle.statefun_driver.specs.Turns.{finish_phase, finish, open_batch, read_from, read_on, take_record, with_reason, attempts_at, tried_phase}
+use Rattle.statefun_driver.specs.Turns.{finish_phase, finish, open_batch, read_from, read_on, take_record, with_reason, attempts_at}
 use Rattle.statefun_driver.specs.Stretches.{AreRising, IsInTime, IsBetween, IsEntryOf, AreCallsOf}
 use Rattle.statefun_driver.proofs.Moving.{Moved, BrokeOff, ReadNone, ReadLarge, Took, SawMoment, Began, PolledNone, FailedBy, Accepts, Misses, accepted, missed}
 use Rattle.statefun_driver.proofs.Resting.{Rests, rest_finish, rest_open, rest_read, rest_read_on}
-use Rattle.statefun_driver.proofs.Standing.{Laws, IsSound, makes_take, makes_register, held_recorded, stands_in, later}
+use Rattle.statefun_driver.proofs.Standing.{Laws, IsSound, makes_take, held_recorded, stands_in, later}
 use Rattle.statefun_driver.proofs.Ways.{Silent, Phased, Opened, Marked, Sent, Thens, silent_open, silent_read, silent_read_on}
 
 -- ---- lists of entries

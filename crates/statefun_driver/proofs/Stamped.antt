@@ -1,5 +1,5 @@
 -- No stamp of a cell is later than the moment.
-use Rattle.std.proofs.Common.{◌≡◌, ℕ, ◌≤◌, List, [], ◌∷◌, ◌++◌, map, Bool, true, false, cond, Option, Some, None, is_some, arith}
+use Rattle.std.proofs.Common.{ℕ, ◌≤◌, List, [], ◌∷◌, ◌++◌, map, Bool, true, false, cond, Option, Some, None, is_some, arith}
 use Rattle.std.specs.List.{AllByRecursion}
 use Rattle.typed_values.specs.declared.address.Address.{Address}
 use Rattle.typed_values.specs.declared.letter.Sender.{Sender}
@@ -10,7 +10,7 @@ use Rattle.typed_values.specs.declared.cell.Expiry.TheVariants.{Never, AfterWrit
 use Rattle.typed_values.specs.declared.cells.Cell.{Cell}
 use Rattle.typed_values.specs.declared.value.TypedValue.{TypedValue}
 use Rattle.typed_values.specs.Sameness.{same_address}
-use Rattle.typed_values.specs.Cells.{used, empty, emptied, written, invoked, is_expired, is_named, found, registered, changed}
+use Rattle.typed_values.specs.Cells.{used, empty, emptied, written, invoked, is_expired, is_named, found, changed}
 use Rattle.state_cells.specs.Lifetimes.{Call, Registers, Modifies, Deletes, Invokes, after, after_all}
 use Rattle.invocation.specs.declared.effects.Change.{Change}
 use Rattle.invocation.specs.declared.effects.Change.TheVariants.{Set, Clear}

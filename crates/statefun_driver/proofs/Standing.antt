@@ -37,7 +37,7 @@ use Rattle.run_record.proofs.Steps.{made-is, take-made}
 use Rattle.partition_core.specs.declared.bounds.Bounds.{Bounds}
 use Rattle.partition_core.specs.Batches.{batch_at, keeps, opened_at, sender_of}
 use Rattle.partition_core.specs.Work.{Work, own_of, mail_in, state_of, settled, set_for, done, is_idle}
-use Rattle.partition_core.specs.Laws.{IsOwned, IsInTurn, IsTheMachine, AnswersAreAsked, DueIsMade, flying, sender_of_due}
+use Rattle.partition_core.specs.Laws.{IsInTurn, IsTheMachine, AnswersAreAsked, DueIsMade, flying, sender_of_due}
 use Rattle.statefun_driver.specs.declared.end.End.TheVariants.{Done, TurnsSpent, EndpointFailed}
 use Rattle.statefun_driver.specs.Seen.{Event}
 use Rattle.statefun_driver.specs.Turns.{Plan, Control, Phase, Reading, Asking, Opening, Waiting, Stopped, Asked, at, recorded, own_now, quota, longest, size_of, dues}
@@ -45,7 +45,7 @@ use Rattle.statefun_driver.specs.Turns.{taken_in, is_done, ends_done, goes_on_be
 use Rattle.statefun_driver.specs.Turns.{attempts_at, patience_at, tried_phase, with_reason, reply_to}
 use Rattle.statefun_driver.specs.Runs.{most_bytes, IsTooLarge}
 use Rattle.statefun_driver.proofs.Moving.{Moved, BrokeOff, ReadNone, ReadLarge, Took, SawMoment, Began, PolledNone, FailedBy, Accepts, Misses, accepted, missed, Judges, IsPatient}
-use Rattle.statefun_driver.specs.Origins.{AreStamped, IsHeld}
+use Rattle.statefun_driver.specs.Origins.{IsHeld}
 use Rattle.statefun_driver.proofs.Stamped.{AreTimely, stamped_for, stamped_later, timely_changes, timely_registers}
 use Rattle.statefun_driver.proofs.Lined.{same_itself, first_all, line_with, line_put_all, line_settled}
 use Rattle.statefun_driver.proofs.Opening.{fitting_front, fitting_keeps, keeps_count, keeps_bytes, fitting_none}

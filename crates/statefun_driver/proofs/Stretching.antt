@@ -1,5 +1,5 @@
 -- Turns that begin behind others are a stretch, with all that is said of one.
-use Rattle.std.proofs.Common.{◌≡◌, ◌∙◌, refl, sym, ap, subst, ℕ, ◌<◌, ◌≤◌, List, [], ◌∷◌, length, Bool, true, false, cond, Option, Some, None, nat_lt, map, arith, append-nil}
+use Rattle.std.proofs.Common.{◌≡◌, ◌∙◌, refl, sym, ap, subst, ℕ, ◌<◌, ◌≤◌, List, [], ◌∷◌, length, Bool, true, false, cond, Option, Some, None, nat_lt, map, append-nil}
 use Rattle.std.specs.Prelude.{find}
 use Rattle.std.specs.Prelude.{IfSome, IsTrue, ◌&&◌, nat_le}
 use Rattle.std.specs.List.{AllByRecursion, list_all}

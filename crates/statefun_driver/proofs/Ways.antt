@@ -16,7 +16,7 @@ use Rattle.partition_core.specs.declared.bounds.Bounds.{Bounds}
 use Rattle.partition_core.specs.Batches.{batch_at, opened_at}
 use Rattle.statefun_driver.specs.Seen.{Event, Seen, Hears}
 use Rattle.statefun_driver.specs.Turns.{Plan, Control, Phase, Reading, IsAsked, goes_on, at, quota, dues, own_now}
-use Rattle.statefun_driver.specs.Turns.{finish_phase, finish, opening, bounds_of, opened_by, open_batch, serve_first, serve, due_recorded, send_due, read_from, read_on}
+use Rattle.statefun_driver.specs.Turns.{finish_phase, opening, bounds_of, opened_by, open_batch, serve_first, serve, due_recorded, send_due, read_from, read_on}
 use Rattle.statefun_driver.specs.Origins.{IsHeld}
 use Rattle.statefun_driver.specs.Traces.{Trace, turns}
 use Rattle.statefun_driver.proofs.Moving.{Moved, moves}

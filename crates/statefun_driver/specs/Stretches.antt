@@ -1,12 +1,11 @@
 -- What turns come to that begin behind others: one list of events, of which all is said.
-use Rattle.std.specs.Prelude.{◌≡◌, ◌≤◌, ◌<◌, ◌+◌, ℕ, true, List, [], ◌∷◌, Some, IfSome, Contains}
+use Rattle.std.specs.Prelude.{◌≡◌, ◌≤◌, ◌<◌, ℕ, true, List, [], ◌∷◌, Some, IfSome, Contains}
 use Rattle.std.specs.List.{AllByRecursion, IsDistinct}
 use Rattle.sf_outside.specs.Told.{more}
 use Rattle.sf_outside.specs.Splits.{Lists}
 use Rattle.sf_outside.specs.declared.call.Call.{Call}
 use Rattle.sf_outside.specs.declared.call.LinkEvent.{LinkEvent}
 use Rattle.sf_outside.specs.declared.call.LinkEvent.TheVariants.{Started}
-use Rattle.sf_outside.specs.declared.call.Exchange.{Exchange}
 use Rattle.address_routing.specs.declared.module.Module.{Module}
 use Rattle.run_record.specs.declared.entry.Entry.{Entry}
 use Rattle.run_record.specs.declared.entry.Step.{Step}

@@ -1,5 +1,5 @@
 -- The turns of a run, as a machine that asks the outside one thing at a time.
-use Rattle.std.specs.Prelude.{◌≡◌, ℕ, zero, suc, ◌+◌, ◌-◌, filter, nat_eq, nat_lt, nat_le, max, min, List, [], ◌∷◌, ◌++◌, length, map, take, slice_get, ◌^◌}
+use Rattle.std.specs.Prelude.{◌≡◌, ℕ, zero, suc, ◌+◌, ◌-◌, filter, nat_lt, nat_le, max, min, List, [], ◌∷◌, ◌++◌, length, map, take, slice_get, ◌^◌}
 use Rattle.std.specs.Prelude.{Bool, true, false, not, ◌&&◌, ◌||◌, if◌then◌else◌, Option, Some, None}
 use Rattle.std.specs.Option.{option_map_or}
 use Rattle.proto_wire.specs.Message.{capped}

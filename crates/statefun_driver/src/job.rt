@@ -1,7 +1,6 @@
 //! What is run.
 ghost use Rattle.std.specs.Prelude.{◌≡◌, ◌≤◌, true, false};
 ghost use Rattle.address_routing.specs.Routing.{splits_in};
-ghost use Rattle.statefun_driver.specs.Work.{plan_of};
 
 use address_routing::{IngressSpec, Routes};
 
@@ -21,7 +20,9 @@ pub struct Job {
 impl Job {
     /// The job of these routes, for so many turns at most.
     pub(crate) fn new(routes: Routes, turns: u64) -> Job
-        ensures { plan_of result ≡ record { routes = routes; turns = turns; rests = false } }
+        ensures routes { result.routes ≡ routes }
+        ensures turns { result.turns ≡ turns }
+        ensures rests { result.rests ≡ false }
     {
         let splits = splits_in(routes.module().ingresses.as_slice());
         Job {
@@ -34,7 +35,8 @@ impl Job {
 
     /// The job of these routes, whose turns are driven one by one.
     pub fn driven(routes: Routes) -> Job
-        ensures { plan_of result ≡ record { routes = routes; turns = 0; rests = true } }
+        ensures routes { result.routes ≡ routes }
+        ensures rests { result.rests ≡ true }
     {
         let splits = splits_in(routes.module().ingresses.as_slice());
         Job {

@@ -7,7 +7,6 @@ mod job;
 mod laws;
 mod outside;
 mod progress;
-
 mod running;
 mod settled;
 mod steps;
@@ -18,6 +17,6 @@ pub use job::Job;
 pub use laws::{what_turns_come_to, what_turns_come_to_is_a_run};
 pub use outside::Outside;
 pub use progress::Progress;
-pub use steps::Cut;
 pub use running::{Ran, run};
+pub use steps::Cut;
 pub use world::World;

@@ -1,5 +1,5 @@
 //! What a run has done so far, and its turns.
-ghost use Rattle.std.specs.Prelude.{◌≡◌, ◌<◌, ◌≤◌, ◌^◌, ◌+◌, ◌-◌, length, max, ◌++◌, ◌∷◌, [], IfOk, OnOk, OnErr, true, false, get_or, vec_len};
+ghost use Rattle.std.specs.Prelude.{◌≡◌, ◌<◌, ◌≤◌, ◌^◌, ◌+◌, ◌-◌, ℕ, length, max, ◌++◌, ◌∷◌, [], IfOk, OnOk, OnErr, true, false, get_or, vec_len};
 ghost use Rattle.run_record.specs.declared.entry.Step.TheVariants.{Batch as IsBatch};
 ghost use Rattle.run_record.specs.Egress.{records_of_reply};
 ghost use Rattle.partition_core.specs.Kept.{work_of};
@@ -265,12 +265,7 @@ impl Progress {
 
     /// Makes a turn of a job whose turns are driven. Behind an `Err` no turn may be made.
     #[tactic(auto, unfolding(crate::specs::Work::splits_of))]
-    pub fn leg<O: Outside>(
-        &mut self,
-        alloc: Global,
-        job: &Job,
-        outside: &mut O,
-    ) -> Result<(), End>
+    pub fn leg<O: Outside>(&mut self, alloc: Global, job: &Job, outside: &mut O) -> Result<(), End>
         requires driven { job.now.rests ≡ true }
         requires splits { splits_of self.old ≡ job.now.splits }
         requires turn { (here self.old).turn < 2 ^ 63 }
@@ -301,7 +296,7 @@ impl Progress {
     /// How many records of each split were taken.
     #[tactic(auto, unfolding(crate::specs::Work::here, crate::specs::Work::splits_of))]
     pub fn counts(&self) -> &[u64]
-        ensures counts { (here self.now).counts ≡ (λ split. get_or result.now split 0) }
+        ensures counts { ◌≡◌ {A = ℕ → ℕ} (here self.now).counts (λ split. get_or result.now split 0) }
         ensures splits { length result.now ≡ splits_of self.now }
     {
         self.counts.as_slice()
@@ -370,7 +365,7 @@ impl Progress {
 /// So many records taken of each split, of so many splits.
 fn counts_of(alloc: Global, taken: &[u64], splits: u32) -> Mem<Vec<u64>>
     requires { length taken.now ≤ splits }
-    ensures counts { IfOk result (λ counts. (λ split. get_or counts.items split 0) ≡ (λ split. get_or taken.now split 0)) }
+    ensures counts { IfOk result (λ counts. ◌≡◌ {A = ℕ → ℕ} (λ split. get_or counts.items split 0) (λ split. get_or taken.now split 0)) }
     ensures splits { IfOk result (λ counts. vec_len counts ≡ splits) }
 {
     let mut counts = taken.to_vec(alloc)?;

@@ -71,7 +71,8 @@ impl Steps {
         ensures ok { OnOk result (self.new ≡ self.old ++ entry ∷ []) }
         ensures err { OnErr result (self.new ≡ self.old) }
     {
-        self.entries.push(entry)
+        self.entries.push(entry)?;
+        Ok(())
     }
 
     /// Adds a step that gives this to egresses. An `Err` leaves the steps as they were.
