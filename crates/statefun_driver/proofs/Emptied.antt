@@ -109,11 +109,11 @@ flies_with post address letters count h e other = by (same_address address other
 others_with : (post : Post) (address : Address) (letters : List Letter) (count : ℕ) → OthersRest address post → OthersRest address (with_letters address letters count post)
 others_with post address letters count h other same = ap (λ t. cond t count (post.in_flight other)) same ∙ h other same
 
-put_lined : (letters : List Letter) (post : Post) → AreLined post → AreLined (put_all letters post)
+pub put_lined : (letters : List Letter) (post : Post) → AreLined post → AreLined (put_all letters post)
 put_lined [] post h = h
 put_lined (letter ∷ letters) post h = put_lined letters (put letter post) (lined_with post letter.target (post.letters letter.target ++ letter ∷ []) (post.in_flight letter.target) h)
 
-put_flies : (letters : List Letter) (post : Post) → NoneFlies post → NoneFlies (put_all letters post)
+pub put_flies : (letters : List Letter) (post : Post) → NoneFlies post → NoneFlies (put_all letters post)
 put_flies [] post h = h
 put_flies (letter ∷ letters) post h = put_flies letters (put letter post) (flies_with post letter.target (post.letters letter.target ++ letter ∷ []) (post.in_flight letter.target) (λ other same. h other) (h letter.target))
 

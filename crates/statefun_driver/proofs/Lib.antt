@@ -30,3 +30,5 @@ mod Backed
 mod Numbered
 mod Stretching
 mod Ended
+pub mod Restored
+pub mod Driving
