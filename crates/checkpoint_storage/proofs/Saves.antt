@@ -2,14 +2,14 @@
 use Rattle.std.proofs.Common.{◌≡◌, ◌≢◌, ◌⊎◌, inl, inr, ℕ, zero, suc, ◌+◌, ◌-◌, ◌<◌, ◌≤◌, true, List, [], ◌∷◌, ◌++◌, length, slice_get, Option, Some, None, option_map, refl, sym, ◌∙◌, ap, subst, arith, append-nil}
 use Rattle.std.specs.Option.{option_to_list}
 use Rattle.sf_disk.specs.Images.{FileState, Leaves}
-use Rattle.sf_disk.specs.Moments.{Moment, Folder, IsImage, Others, InFile, Since, Becomes, newest}
+use Rattle.sf_disk.specs.Moments.{Moment, Folder, IsImage, Others, InFile, Since, Becomes, WhereTold, newest}
 use Rattle.sf_disk.proofs.Onward.{since_as, since_then, becomes_as, becomes_then, at_now, told_now}
 use Rattle.typed_values.specs.declared.letter.Letter.{Letter}
 use Rattle.piece_messages.specs.declared.piece.Piece.{Piece}
 use Rattle.folder_form.specs.declared.mark.Mark.{Mark}
 use Rattle.folder_form.specs.Folders.{Part, Checkpoint, Contents, egress_in, file_of, pieces_of, with_checkpoint}
 use Rattle.snapshot_files.specs.declared.store.Store.{Store}
-use Rattle.snapshot_files.specs.Stores.{HasForm, Pending, IsStore, nothing_pending, held_by}
+use Rattle.snapshot_files.specs.Stores.{newest as newest_of, HasForm, Pending, IsStore, nothing_pending, held_by}
 use Rattle.snapshot_files.specs.Changes.{Keeps, Writes, PutPiece, PutLetters, Completed, completed_by, marked, parts_put, with_piece, with_letters}
 use Rattle.snapshot_files.proofs.OneThing.{store_stands}
 use Rattle.egress_commit.specs.declared.outlet.Outlet.{Outlet}
@@ -17,7 +17,7 @@ use Rattle.egress_commit.specs.Epochs.{Epoch, HasEpochs}
 use Rattle.egress_commit.specs.Outlets.{last_epoch, IsOutlet, Commits, Committed}
 use Rattle.egress_commit.proofs.Steps.{counted}
 use Rattle.checkpoint_storage.specs.declared.storage.CheckpointStorage.{CheckpointStorage}
-use Rattle.checkpoint_storage.specs.Folders.{Stands, IsStorage, Change, Leaves as LeavesAmong, Turns, uncommitted, with_next, Completes, Checkpoints, the_part}
+use Rattle.checkpoint_storage.specs.Folders.{Stands, IsStorage, IsKnown, Change, Leaves as LeavesAmong, Turns, uncommitted, with_next, Completes, Checkpoints, the_part}
 use Rattle.checkpoint_storage.proofs.Images.{AreSame, same_but_egress, store_still, epochs_left, stands_by, storage_stands}
 
 -- what was put so far, beside what the storage stood for
@@ -82,6 +82,10 @@ module _ (storage : CheckpointStorage) (mark : Mark) (piece : Piece) (letters : 
   piece_leaves = since_as a b (Keeps (file_of piece.partition) storage.store) (LeavesAmong storage (Completes mark (the_part piece letters))) put
       (λ m n told keeps. kept storage (the_part piece letters) mark storage.store (λ pending. pending) (file_of piece.partition) first_file refl m m n (holds_none m) keeps)
 
+  pub piece_known : (one : Store) → Becomes a b (PutPiece storage.store one piece) → IsKnown storage a → WhereTold b (λ now. (contents : Contents) × (pending : (ℕ → Pending)) × IsStore one contents pending now)
+  piece_known one is_put known = told_now a b (PutPiece storage.store one piece) (Keeps (file_of piece.partition) storage.store) (λ now. (contents : Contents) × (pending : (ℕ → Pending)) × IsStore one contents pending now) put is_put
+      (λ m k told p. let r = known m told in (r.0, put_piece piece nothing_pending, p.is_store r.0 nothing_pending r.2.store))
+
   module _ (one : Store) (text_one : one.text ≡ storage.store.text) (is_put : Becomes a b (PutPiece storage.store one piece)) (c : List Moment) (put_letters : Since b c (Keeps 2 one)) where
     holds_piece : (m k : Moment) → PutPiece storage.store one piece m k → Holds storage one (put_piece piece) m k
     holds_piece m k p = record { store_is = λ contents epochs is. p.is_store contents nothing_pending is.store; egress = p.others 1 first_file }
@@ -92,6 +96,12 @@ module _ (storage : CheckpointStorage) (mark : Mark) (piece : Piece) (letters : 
     pub letters_leave : Since a c (LeavesAmong storage (Completes mark (the_part piece letters)))
     letters_leave = since_then a b c (LeavesAmong storage (Completes mark (the_part piece letters))) (Keeps 2 one) piece_leaves put_letters
         (λ m k n told_m told_k keeps. kept storage (the_part piece letters) mark one (put_piece piece) 2 (λ e. omega (arith, e)) text_one m k n (piece_now m k told_m told_k) keeps)
+
+    pub both_known : (two : Store) → Becomes b c (PutLetters one two 0 letters) → IsKnown storage a → WhereTold c (λ now. (contents : Contents) × (pending : (ℕ → Pending)) × IsStore two contents pending now)
+    both_known two are_put known = told_now a c (Holds storage two (put_both piece letters)) (LeavesAmong storage (Completes mark (the_part piece letters))) (λ now. (contents : Contents) × (pending : (ℕ → Pending)) × IsStore two contents pending now) letters_leave
+        (becomes_then a b c (PutPiece storage.store one piece) (PutLetters one two 0 letters) (Holds storage two (put_both piece letters)) is_put are_put
+        (λ m k n told p l. record { store_is = λ contents epochs is. l.is_store contents (put_piece piece nothing_pending) (p.is_store contents nothing_pending is.store); egress = l.others 1 (λ e. omega (arith, e)) ∙ p.others 1 first_file }))
+        (λ m n told h. let r = known m told in (r.0, put_both piece letters nothing_pending, h.store_is r.0 r.1 r.2))
 
     module _ (two : Store) (text_two : two.text ≡ one.text) (shape_two : two.shape ≡ storage.store.shape) (are_put : Becomes b c (PutLetters one two 0 letters)) (d : List Moment) (writing : Since c d (Writes two (completed_by two mark))) where
       both_now : Becomes a c (Holds storage two (put_both piece letters))
@@ -125,6 +135,14 @@ last_there : {X : Type 0} (xs : List X) (x : X) → slice_get (xs ++ x ∷ []) (
 last_there [] x = refl
 last_there (y ∷ xs) x = last_there xs x
 
+-- a checkpoint that is completed, or not yet, and whose egress is not committed
+pub saving : (storage : CheckpointStorage) (mark : Mark) (parts : List Part) (a b : List Moment) → Since a b (LeavesAmong storage (Completes mark parts)) → Since a b (LeavesAmong storage (Checkpoints mark parts))
+saving storage mark parts a b all = since_as a b (LeavesAmong storage (Completes mark parts)) (LeavesAmong storage (Checkpoints mark parts)) all (λ m n told l contents epochs is folder image. let r = l contents epochs is folder image in (r.0, r.1, inl r.2, r.3))
+
+-- where each epoch is committed there are as many as checkpoints
+pub even_lengths : (storage : CheckpointStorage) → last_epoch storage.outlet ≡ newest_of storage.store → (contents : Contents) (epochs : List Epoch) (m : Moment) → IsStorage storage contents epochs m → length epochs ≡ length contents.checkpoints
+even_lengths storage even contents epochs m is = let count = counted storage.outlet epochs (m 1) is.outlet in let newest_is = (is.store).newest_is in omega (arith, even, count, newest_is)
+
 module _ (storage middle : CheckpointStorage) (mark : Mark) (piece : Piece) (letters : List Letter) (a b : List Moment)
     (all : Since a b (LeavesAmong storage (Completes mark (the_part piece letters))))
     (turns : Becomes a b (Turns storage middle (λ contents epochs. with_checkpoint mark (the_part piece letters) contents) (λ contents epochs. epochs)))
@@ -132,8 +150,9 @@ module _ (storage middle : CheckpointStorage) (mark : Mark) (piece : Piece) (let
   abbrev parts : List Part
   parts = the_part piece letters
 
-  pub saving : Since a b (LeavesAmong storage (Checkpoints mark parts))
-  saving = since_as a b (LeavesAmong storage (Completes mark parts)) (LeavesAmong storage (Checkpoints mark parts)) all (λ m n told l contents epochs is folder image. let r = l contents epochs is folder image in (r.0, r.1, inl r.2, r.3))
+  pub outlet_now : IsKnown storage a → WhereTold b (λ now. (epochs : List Epoch) × IsOutlet middle.outlet epochs (now 1))
+  outlet_now known = told_now a b (Turns storage middle (λ contents epochs. with_checkpoint mark parts contents) (λ contents epochs. epochs)) (LeavesAmong storage (Completes mark parts)) (λ now. (epochs : List Epoch) × IsOutlet middle.outlet epochs (now 1)) all turns
+      (λ m k told t. let r = known m told in (r.1, (t r.0 r.1 r.2).outlet))
 
   module _ (number : ℕ) (is_next : number ≡ last_epoch storage.outlet + 1) (same_outlet : middle.outlet ≡ storage.outlet) (even : (contents : Contents) (epochs : List Epoch) (m : Moment) → IsStorage storage contents epochs m → length epochs ≡ length contents.checkpoints) (c : List Moment) where
     given : egress_in (record { mark = mark; parts = parts }) ≡ piece.egress
@@ -161,7 +180,7 @@ module _ (storage middle : CheckpointStorage) (mark : Mark) (piece : Piece) (let
             (with_checkpoint mark parts contents, epochs ++ piece.egress ∷ [], inr (refl, all_is contents epochs m is), stands_by middle.store (with_checkpoint mark parts contents) (epochs ++ piece.egress ∷ []) storage.store.text folder text form has.1)
 
     pub committing : Since b c (InFile 1 (Commits middle.outlet number piece.egress)) → Since a c (LeavesAmong storage (Checkpoints mark parts))
-    committing commits = since_then a b c (LeavesAmong storage (Checkpoints mark parts)) (InFile 1 (Commits middle.outlet number piece.egress)) saving commits
+    committing commits = since_then a b c (LeavesAmong storage (Checkpoints mark parts)) (InFile 1 (Commits middle.outlet number piece.egress)) (saving storage mark parts a b all) commits
         (λ m k n told_m told_k o. left m k n (at_now a b (Turns storage middle (λ contents epochs. with_checkpoint mark parts contents) (λ contents epochs. epochs)) turns m k told_m told_k) o)
 
     turned_both : (outlet : Outlet) (m k n : Moment) → Turns storage middle (λ contents epochs. with_checkpoint mark parts contents) (λ contents epochs. epochs) m k → InFile 1 (Committed middle.outlet outlet piece.egress) k n
