@@ -1,6 +1,7 @@
 -- Legs keep what checkpoints mean: each checkpoint that they complete is what the machine gives on the record up to it.
 use Rattle.std.proofs.Common.{◌≡◌, ◌⊎◌, inl, inr, ℕ, suc, ◌+◌, ◌<◌, ◌≤◌, Bool, true, false, cond, List, [], ◌∷◌, ◌++◌, length, filter, Option, Some, None, IfSome, refl, sym, ◌∙◌, ap, subst, arith, append_assoc, append-nil, length-append}
 use Rattle.std.specs.Prelude.{IsTrue, Contains}
+use Rattle.std.proofs.lemmas.List.{get_or_append_left}
 use Rattle.std.specs.List.{AllByRecursion, IsDistinct, flat_map}
 use Rattle.typed_values.specs.declared.record.EgressRecord.{EgressRecord}
 use Rattle.sf_outside.specs.Told.{more}
@@ -36,7 +37,8 @@ use Rattle.statefun_driver.proofs.Journal.{grows_itself, grows_then, grows_one}
 use Rattle.checkpoint_state.specs.Meaning.{given_by, state_in, moment_of, IsGood}
 use Rattle.checkpoint_state.specs.Laws.{IsNext, IsFrom, HaveGrown, NextKeepsGood, ListsKeepGood, BackingGrows, EntriesLeadToTheNext, EgressBacksNoStep, IsOf}
 use Rattle.checkpoint_drive.specs.declared.options.Options.{Options}
-use Rattle.checkpoint_drive.specs.Drives.{Rest, Leg, IsLeg, AreLegs, IsTaken, IsCheckpointOf, checkpoint_of, behind, behind_with, rested}
+use Rattle.checkpoint_drive.specs.Laws.{BeginsAt, IsBackedBy, HaveGrownGood, LegsCompleteWhatIsGood, after, after_all}
+use Rattle.checkpoint_drive.specs.Drives.{Rest, Leg, IsLeg, first_rest, AreLegs, IsTaken, IsCheckpointOf, checkpoint_of, behind, behind_with, rested}
 
 -- ---- what lower crates say
 
@@ -80,9 +82,17 @@ exchanges_grow plan c d o p (event ∷ events) t = Extends-then o.exchanges (t.0
 behind_others : (others old new : List Exchange) → Extends old new → Extends (others ++ old) (others ++ new)
 behind_others others old new e = (e.0, ap (λ (l : List Exchange). others ++ l) e.1 ∙ sym (append_assoc others old e.0))
 
+some_of : {X : Type 0} {P : Type 0} (o : Option X) → P → IfSome o (λ _. P)
+some_of None p = tt
+some_of (Some x) p = p
+
 some_then : {X : Type 0} {P Q : X → Type 0} (o : Option X) → ((x : X) → P x → Q x) → IfSome o P → IfSome o Q
 some_then None f h = h
 some_then (Some x) f h = f x h
+
+if_some : {X : Type 0} {P : X → Type 0} (o : Option X) (Q : X → Type 0) → ((x : X) → o ≡ Some x → P x → Q x) → IfSome o P → IfSome o Q
+if_some None Q f h = h
+if_some (Some x) Q f h = f x refl h
 
 -- ---- lists
 
@@ -121,6 +131,10 @@ there_behind : (others list : List Exchange) → Has list (others ++ list)
 there_behind [] list x at = at
 there_behind (o ∷ others) list x at = let r = there_behind others list x at in (suc r.0, omega (arith, r.1), r.2)
 
+-- and in one that has it before others
+there_before : (list others : List Exchange) → Has list (list ++ others)
+there_before list others x at = (at.0, let longer = length-append list others in omega (arith, longer, at.1), get_or_append_left list others x at.0 at.1 ∙ at.2)
+
 -- ---- keys and moments
 
 rises_as : (entries : List Entry) → AreRising entries → Rises key_before entries
@@ -142,26 +156,10 @@ told_some (Some y) x P is h = let same : y ≡ x = cc in subst P same h
 
 -- ---- what a run knows of a folder's contents
 
--- what turns begin behind is what the contents stand for, and nothing of the record is of a later leg
-pub record HasBegun (contents : Contents) (start : Origin) : Type 0 where
-  pub work : state_in contents ≡ state_of start.counts (given_by contents) start.work
-  pub sound : IsSoundOrigin start
-  pub legs : AllByRecursion (λ (entry : Entry). entry.leg ≤ start.turn) (record_of contents)
-  pub calls : AllByRecursion (λ (call : Call). call.leg ≤ start.turn) (calls_of (record_of contents))
-  pub loaded : (loaded_of contents).leg ≤ start.turn
-  pub moment : (loaded_of contents).moment ≤ start.moment
-
-abbrev pub IsBackedBy : List Exchange → Module → Lists → Contents → Type 0
-IsBackedBy exchanges m told contents = AreBacked exchanges m told first_state (record_of contents)
-
-abbrev pub after : Contents → Option Checkpoint → Contents
-after contents None = contents
-after contents (Some checkpoint) = with_checkpoint checkpoint.mark checkpoint.parts contents
-
-module _ (laws : Laws) (plan : Plan) (options : Options) (routable : IsTrue (is_routable plan.routes)) (modest : AreModest plan.routes.endpoints) (others : List Exchange) (base : Lists) (first : Contents) where
+module _ (laws : Laws) (plan : Plan) (options : Options) (routable : IsTrue (is_routable plan.routes)) (modest : AreModest plan.routes.endpoints) (others : List Exchange) (base : Lists) (first : Contents) (root : Seen) where
   -- a run came to a rest behind these contents, which grew out of the first ones
   pub record IsHere (contents : Contents) (rest : Rest) (told : Lists) (now : Seen) : Type 0 where
-    pub begun : HasBegun contents rest.origin
+    pub begun : BeginsAt contents rest.origin
     pub from : Seen
     pub events : List Event
     pub trace : Trace plan (first_control plan rest.origin) from events rest.control now
@@ -169,7 +167,9 @@ module _ (laws : Laws) (plan : Plan) (options : Options) (routable : IsTrue (is_
     pub lists : now.lists ≡ Some told
     pub good : IsGood plan.routes told contents
     pub grown : IsFront (record_of first) (record_of contents)
-    pub backed : IfSome from.journal (λ done. IsBackedBy others plan.routes base first → IsBackedBy (others ++ now.exchanges) plan.routes told contents)
+    -- a link that tells goes on to do so
+    pub tells : (done : List LinkEvent) → root.journal ≡ Some done → (then_done : List LinkEvent) × (from.journal ≡ Some then_done)
+    pub backed : IfSome root.journal (λ done. IsBackedBy others plan.routes base first → IsBackedBy (others ++ now.exchanges) plan.routes told contents)
 
   -- one leg more
   module _ (contents : Contents) (rest : Rest) (told : Lists) (now : Seen) (h : IsHere contents rest told now) (leg : Leg) (next : Seen) (is : IsLeg plan options rest now leg next) where
@@ -202,7 +202,8 @@ module _ (laws : Laws) (plan : Plan) (options : Options) (routable : IsTrue (is_
       lists = then_told.1;
       good = still_good;
       grown = h.grown;
-      backed = some_then h.from.journal (λ done f b. still_backed (f b)) h.backed;
+      tells = h.tells;
+      backed = some_then root.journal (λ done f b. still_backed (f b)) h.backed;
     }
 
     -- behind which a checkpoint was taken
@@ -256,7 +257,7 @@ module _ (laws : Laws) (plan : Plan) (options : Options) (routable : IsTrue (is_
       have : HaveGrown plan.routes then_told.0 contents entries mark grown_by
       have = laws.next plan.routes then_told.0 contents rest.origin.turn entries mark part still_good is_next
 
-      begun_next : HasBegun grown_by (origin_of leg.control)
+      begun_next : BeginsAt grown_by (origin_of leg.control)
       begun_next = record {
         work = leads.1;
         sound = stretch.still is.rests;
@@ -281,20 +282,19 @@ module _ (laws : Laws) (plan : Plan) (options : Options) (routable : IsTrue (is_
             (laws.egress (others ++ next.exchanges) plan.routes then_told.0 rest.origin.counts (given_by contents) rest.origin.work entries
             (backed_over next.exchanges (others ++ next.exchanges) plan.routes then_told.0 _ entries (there_behind others next.exchanges) answers.backed))
 
-        all_backed : IsBackedBy others plan.routes base first → IsBackedBy (others ++ next.exchanges) plan.routes then_told.0 grown_by
+        all_backed : (IsBackedBy (others ++ now.exchanges) plan.routes told contents) → IsBackedBy (others ++ next.exchanges) plan.routes then_told.0 grown_by
         all_backed b =
             let all = h.good.each contents.checkpoints [] (sym (append-nil contents.checkpoints)) in
             subst (λ (entries : List Entry). AreBacked (others ++ next.exchanges) plan.routes then_told.0 first_state entries) (sym have.behind)
-            (laws.backing (others ++ now.exchanges) (others ++ next.exchanges) plan.routes told then_told.0 first_state (state_in contents) (record_of contents) entries exchanged then_told.2 (told_some h.from.journal done _ at h.backed b) all.replays from_here)
+            (laws.backing (others ++ now.exchanges) (others ++ next.exchanges) plan.routes told then_told.0 first_state (state_in contents) (record_of contents) entries exchanged then_told.2 b all.replays from_here)
 
       -- a link that tells nothing at first tells nothing later
       journal_next : (P : List LinkEvent → Type 0) (o : Option (List LinkEvent)) → h.from.journal ≡ o → ((done : List LinkEvent) → h.from.journal ≡ Some done → IfSome next.journal P) → IfSome next.journal P
       journal_next P None at f = subst (λ (j : Option (List LinkEvent)). IfSome j P) (sym (stretch.journal ∙ ap (λ (j : Option (List LinkEvent)). more j (link_events (h.events ++ leg.events))) at)) tt
       journal_next P (Some done) at f = f done at
 
-      some_of : {P : Type 0} (o : Option (List LinkEvent)) → P → IfSome o (λ _. P)
-      some_of None p = tt
-      some_of (Some done) p = p
+      tells_next : (done : List LinkEvent) → root.journal ≡ Some done → (then_done : List LinkEvent) × (next.journal ≡ Some then_done)
+      tells_next done at = let r = h.tells done at in (r.0 ++ link_events (h.events ++ leg.events), stretch.journal ∙ ap (λ (j : Option (List LinkEvent)). more j (link_events (h.events ++ leg.events))) r.1)
 
       takes_on : IsHere grown_by (rested options (origin_of leg.control) (first_control plan (origin_of leg.control)) (rest.legs + 1) (rest.newest + 1)) then_told.0 next
       takes_on = record {
@@ -306,7 +306,8 @@ module _ (laws : Laws) (plan : Plan) (options : Options) (routable : IsTrue (is_
         lists = then_told.1;
         good = have.good;
         grown = front_then (record_of first) (record_of contents) (record_of grown_by) h.grown (entries, have.behind);
-        backed = journal_next _ h.from.journal refl (λ done at. some_of next.journal (all_backed done at));
+        tells = tells_next;
+        backed = if_some root.journal _ (λ done at f b. let r = h.tells done at in all_backed r.0 r.1 (f b)) h.backed;
       }
 
     -- a leg leads on, with its checkpoint or without
@@ -318,12 +319,42 @@ module _ (laws : Laws) (plan : Plan) (options : Options) (routable : IsTrue (is_
     leg_leads = (then_told.0, leads_on leg.taken refl is.taken)
 
   -- and so do legs
-  abbrev pub after_all : Contents → List Leg → Contents
-  after_all contents [] = contents
-  after_all contents (leg ∷ legs) = after_all (after contents leg.taken) legs
-
   pub legs_lead : (contents : Contents) (rest last : Rest) (told : Lists) (now end : Seen) (legs : List Leg) → IsHere contents rest told now → AreLegs plan options rest now legs last end → (later : Lists) × IsHere (after_all contents legs) last later end
   legs_lead contents rest last told now end [] h are = (told, subst (λ (r : Rest). IsHere contents r told end) are.0 (subst (IsHere contents rest told) are.1 h))
   legs_lead contents rest last told now end (leg ∷ legs) h are =
       let r = leg_leads contents rest told now h leg are.0 are.1 in
       legs_lead (after contents leg.taken) (behind plan options rest leg) last r.0 are.0 end legs r.1 are.2
+
+-- ---- from the beginning
+
+one_later : (o : Option Lists) (a b : Lists) → o ≡ Some a → o ≡ Some b → a ≡ b
+one_later o a b is_a is_b = cc
+
+pub legs_complete_what_is_good : Laws → LegsCompleteWhatIsGood
+legs_complete_what_is_good laws plan options contents origin newest told before end legs last routable modest lists good begins fresh are = record {
+  later = (reached []).0;
+  lists = ((reached []).1).lists;
+  good = ((reached []).1).good;
+  grown = ((reached []).1).grown;
+  backed = λ others. same_later others;
+}
+  where
+    here : (others : List Exchange) → IsHere laws plan options routable modest others told contents before contents (first_rest plan origin newest) told before
+    here others = record {
+      begun = begins;
+      from = before;
+      events = [];
+      trace = (refl, refl);
+      fresh = fresh;
+      lists = lists;
+      good = good;
+      grown = ([], sym (append-nil (record_of contents)));
+      tells = λ done at. (done, at);
+      backed = some_of before.journal (λ b. backed_over others (others ++ before.exchanges) plan.routes told first_state (record_of contents) (λ x at. there_before others before.exchanges x at) b);
+    }
+
+    reached : (others : List Exchange) → (later : Lists) × IsHere laws plan options routable modest others told contents before (after_all contents legs) last later end
+    reached others = legs_lead laws plan options routable modest others told contents before contents (first_rest plan origin newest) last told before end legs (here others) are
+
+    same_later : (others : List Exchange) → IfSome before.journal (λ done. IsBackedBy others plan.routes told contents → IsBackedBy (others ++ end.exchanges) plan.routes (reached []).0 (after_all contents legs))
+    same_later others = subst (λ (l : Lists). IfSome before.journal (λ done. IsBackedBy others plan.routes told contents → IsBackedBy (others ++ end.exchanges) plan.routes l (after_all contents legs))) (one_later end.lists (reached others).0 (reached []).0 ((reached others).1).lists ((reached []).1).lists) (((reached others).1).backed)

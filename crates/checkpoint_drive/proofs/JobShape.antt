@@ -177,7 +177,7 @@ byte_big : (b : ℕ) → Big (escaped_byte b)
 byte_big b = by (nat_lt b 33 || nat_lt 126 b || b == 37) refl
   where
     by : (t : Bool) → (nat_lt b 33 || nat_lt 126 b || b == 37) ≡ t → Big (cond t (37 ∷ upper_digit (b / 16) ∷ upper_digit (b % 16) ∷ []) (b ∷ []))
-    by true e = (omega arith, digit_big (b / 16), digit_big (b % 16), tt)
+    by true e = (omega arith, (digit_big (b / 16), (digit_big (b % 16), tt)))
     by false e = (grind (arith, nat_tests), tt)
 
 escaped_big : (bs : List ℕ) → Big (escaped bs)
@@ -213,10 +213,10 @@ abbrev of_egress : TypeName → Line
 of_egress name = (codes "egress", name_text name ∷ [])
 
 endpoint_big : (e : Endpoint) → AllBig (endpoint_words e)
-endpoint_big e = (pattern_big e.pattern, escaped_big e.template, decimal_big e.max_letters, decimal_big e.max_bytes, decimal_big e.attempts, decimal_big e.patience, tt)
+endpoint_big e = (pattern_big e.pattern, (escaped_big e.template, (decimal_big e.max_letters, (decimal_big e.max_bytes, (decimal_big e.attempts, (decimal_big e.patience, tt))))))
 
 ingress_big : (i : IngressSpec) → AllBig (ingress_words i)
-ingress_big i = (name_big i.id, decimal_big i.splits, escaped_big i.value_type, names_big i.targets)
+ingress_big i = (name_big i.id, (decimal_big i.splits, (escaped_big i.value_type, names_big i.targets)))
 
 lines_append : (ls ms : List Line) → text_of (ls ++ ms) ≡ text_of ls ++ text_of ms
 lines_append [] ms = refl
@@ -256,11 +256,11 @@ egresses_big (name ∷ names) = (big_by (codes "egress") refl, (name_big name, t
 
 endpoints_name : (es : List Endpoint) → splits_named (map of_endpoint es) ≡ 0
 endpoints_name [] = refl
-endpoints_name (e ∷ es) = endpoints_name es
+endpoints_name (e ∷ es) = let rest = endpoints_name es in omega (arith, rest)
 
 egresses_name : (names : List TypeName) → splits_named (map of_egress names) ≡ 0
 egresses_name [] = refl
-egresses_name (name ∷ names) = egresses_name names
+egresses_name (name ∷ names) = let rest = egresses_name names in omega (arith, rest)
 
 ingresses_name : (is : List IngressSpec) → routing.splits_in is ≤ 32 → splits_named (map of_ingress is) ≡ routing.splits_in is
 ingresses_name [] few = refl
@@ -271,7 +271,7 @@ ingresses_name (i ∷ is) few =
 
 -- ---- the whole text
 
-lines_in : Module → List Line
+abbrev lines_in : Module → List Line
 lines_in m = map of_endpoint m.endpoints ++ (map of_ingress m.ingresses ++ map of_egress m.egresses)
 
 text_is : (m : Module) → job_text m ≡ text_of (lines_in m)
@@ -292,7 +292,7 @@ lines_name m few =
     let e = egresses_name m.egresses in
     omega (arith, a, b, c, d, e)
 
-first_line : Line
+abbrev first_line : Line
 first_line = (codes "partitions", codes "1" ∷ [])
 
 splits_are : (m : Module) → routing.splits_in m.ingresses ≤ 32 → splits_in (folder_text m) ≡ routing.splits_in m.ingresses
@@ -300,7 +300,8 @@ unfolding splits_in
 splits_are m few =
     let whole : folder_text m ≡ text_of (first_line ∷ lines_in m) = ap (λ (r : List ℕ). only_partition ++ r) (text_is m) in
     let found = splits_found (first_line ∷ lines_in m) (big_by (codes "partitions") refl, (big_by (codes "1") refl, tt), lines_big m) in
-    let named = lines_name m few in
+    let rest = lines_name m few in
+    let named : splits_named (first_line ∷ lines_in m) ≡ routing.splits_in m.ingresses = omega (arith, rest) in
     let all : sum (map splits_of_line (lines_of (folder_text m))) ≡ routing.splits_in m.ingresses = ap (λ (t : List ℕ). sum (map splits_of_line (lines_of t))) whole ∙ found ∙ named in
     ap capped all ∙ omega (arith, few)
 
