@@ -1,7 +1,7 @@
 //! Values that are compared exactly.
 ghost use Rattle.std.specs.Prelude.{◌≡◌, ◌↔◌, IsTrue};
 
-use typed_values::TypedValue;
+use typed_values::{Cell, Delay, TypedValue};
 
 /// Values of which each two are told apart.
 pub trait Exact {
@@ -17,4 +17,33 @@ impl Exact for TypedValue {
     fn same(&self, other: &TypedValue) -> bool {
         self == other
     }
+}
+
+impl Exact for Cell {
+    #[tactic(auto, using(crate::proofs::Exactly::cells_Decides))]
+    fn same(&self, other: &Cell) -> bool {
+        self == other
+    }
+}
+
+impl Exact for Delay {
+    #[tactic(auto, using(crate::proofs::Exactly::delays_Decides))]
+    fn same(&self, other: &Delay) -> bool {
+        self == other
+    }
+}
+
+/// Whether two lists have the same values in the same order. Takes no memory.
+pub fn same_all<T: Exact>(one: &[T], other: &[T]) -> bool
+    ensures { IsTrue result ↔ (one.now ≡ other.now) }
+{
+    if one.len() != other.len() {
+        return false;
+    }
+    for place in 0..one.len() {
+        if !one[place].same(&other[place]) {
+            return false;
+        }
+    }
+    true
 }

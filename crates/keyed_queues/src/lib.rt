@@ -8,7 +8,7 @@ mod queue;
 mod shelf;
 mod shelves;
 
-pub use exact::Exact;
+pub use exact::{Exact, same_all};
 pub use numbers::Numbers;
 pub use shelf::{Key, Shelf};
 pub use shelves::{Place, Placed, Shelves};
