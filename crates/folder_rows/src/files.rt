@@ -10,11 +10,7 @@ use std::alloc::Global;
 const FILES: u32 = 19;
 
 /// All bytes of a file.
-pub(crate) fn content_of(
-    alloc: Global,
-    disk: &mut Quiet,
-    file: u32,
-) -> Result<Bytes, Failure> {
+pub(crate) fn content_of(alloc: Global, disk: &mut Quiet, file: u32) -> Result<Bytes, Failure> {
     match read_all(alloc, disk, file) {
         Ok(content) => Ok(content),
         Err(fault) => Err(failure_of(fault)),

@@ -1,9 +1,9 @@
 //! A life of a folder: it is opened, and checkpoints are written, each behind the beginning of a run.
-ghost use Rattle.std.specs.Prelude.{◌≡◌, ◌≤◌, ◌+◌, length, true, IsFalse, IfOk, OnOk};
+ghost use Rattle.std.specs.Prelude.{◌≡◌, ◌≤◌, ◌<◌, ◌+◌, length, true, IsFalse, IfOk, OnOk};
 ghost use Rattle.std.specs.List.{list_all};
 ghost use Rattle.folder_form.specs.Folders.{takes};
 ghost use Rattle.snapshot_files.specs.Stores.{newest};
-ghost use Rattle.snapshot_files.specs.Usable.{AreAllPut};
+ghost use Rattle.snapshot_files.specs.Usable.{AreAllPut, has_letters, has_piece, latest_put};
 
 use crate::plan::{Part, Plan};
 use crate::quiet::Quiet;
@@ -75,12 +75,7 @@ fn begin(disk: &mut Quiet, store: &mut Store, life: &mut Life, leg: u64) -> Resu
     Ok(())
 }
 
-fn put_all(
-    alloc: Global,
-    disk: &mut Quiet,
-    store: &mut Store,
-    parts: &[Part],
-) -> Result<(), Stop>
+fn put_all(alloc: Global, disk: &mut Quiet, store: &mut Store, parts: &[Part]) -> Result<(), Stop>
     requires usable { IsFalse store.old.spent }
     ensures usable { OnOk result (IsFalse store.new.spent) }
 {
@@ -91,12 +86,7 @@ fn put_all(
     Ok(())
 }
 
-fn put_piece(
-    alloc: Global,
-    disk: &mut Quiet,
-    store: &mut Store,
-    piece: &Piece,
-) -> Result<(), Stop>
+fn put_piece(alloc: Global, disk: &mut Quiet, store: &mut Store, piece: &Piece) -> Result<(), Stop>
     requires usable { IsFalse store.old.spent }
     ensures usable { OnOk result (IsFalse store.new.spent) }
 {
@@ -132,12 +122,22 @@ fn put_letters(
     Ok(())
 }
 
+/// Whether the parts of a partition were put, with no moment above this one.
+fn is_put(store: &Store, partition: u32, moment: u64) -> bool
+    requires { partition < store.now.shape.partitions }
+    ensures piece { result ≡ true → has_piece store.now partition ≡ true }
+    ensures letters { result ≡ true → has_letters store.now partition ≡ true }
+    ensures latest { result ≡ true → latest_put store.now partition ≤ moment }
+{
+    store.placed(partition) && store.latest(partition) <= moment
+}
+
 /// Whether all parts of the next checkpoint were put, with no moment above this one.
 fn are_all_put(store: &Store, moment: u64) -> bool
     ensures { result ≡ true → AreAllPut store.now moment }
 {
     for partition in 0..store.shape().partitions {
-        if !store.placed(partition) || moment < store.latest(partition) {
+        if !is_put(store, partition, moment) {
             return false;
         }
     }
@@ -155,6 +155,12 @@ fn is_take(entry: &Entry) -> bool
     }
 }
 
+fn are_takes(entries: &[Entry]) -> bool
+    ensures { result ≡ list_all takes entries.now }
+{
+    entries.iter().all(|entry| is_take(entry))
+}
+
 /// Whether a checkpoint may be the next.
 fn is_next(store: &Store, mark: &Mark) -> bool
     ensures number { result ≡ true → mark.now.number ≡ newest store.now + 1 }
@@ -166,15 +172,10 @@ fn is_next(store: &Store, mark: &Mark) -> bool
         && mark.number - store.newest() == 1
         && mark.number <= mark.leg
         && mark.taken.len() as u64 == store.shape().splits
-        && mark.takes.as_slice().iter().all(is_take)
+        && are_takes(mark.takes.as_slice())
 }
 
-fn complete(
-    disk: &mut Quiet,
-    store: &mut Store,
-    life: &mut Life,
-    mark: &Mark,
-) -> Result<(), Stop>
+fn complete(disk: &mut Quiet, store: &mut Store, life: &mut Life, mark: &Mark) -> Result<(), Stop>
     requires usable { IsFalse store.old.spent }
     ensures usable { OnOk result (IsFalse store.new.spent) }
 {
