@@ -1,0 +1,8 @@
+//! The words of `statefun run` over a folder of checkpoints.
+#![tactic(auto)]
+
+mod numbers;
+mod reading;
+mod words;
+
+pub use words::{RunWords, WordsFault, read_run_words};
