@@ -1,3 +1,5 @@
 pub mod Digits
 pub mod FirstWrong
 pub mod Budget
+pub mod Bounds
+pub mod Steps
