@@ -105,32 +105,44 @@ err_same : (k j : ℕ) → ◌≡◌ {A = Result RunWords ℕ} (Err k) (Err j) �
 err_same k j e = let p : k ≡ j = cc in omega arith
 
 at_end : (place j : ℕ) (reading : Reading) → or_missing place (asked_by reading) ≡ Err j → StopsAt place reading [] j
-at_end place j reading e = (0, same (asked_by reading) e, record {
-  within = omega arith;
-  before = completes reading;
-  here = λ l. absurd (omega arith);
-})
+at_end place j reading e = (
+  0,
+  same (asked_by reading) e,
+  record {
+    within = omega arith;
+    before = completes reading;
+    here = λ l. absurd (omega arith);
+  },
+)
   where
     same : (o : Option RunWords) → or_missing place o ≡ Err j → j ≡ place + 0
     same (Some asked) e = absurd cc
     same None e = err_same place j e
 
 at_word : (place j : ℕ) (reading : Reading) (word : Word) (words : List Word) → read_word reading word ≡ None → ◌≡◌ {A = Result RunWords ℕ} (Err place) (Err j) → StopsAt place reading (word ∷ words) j
-at_word place j reading word words n e = (0, err_same place j e, record {
-  within = omega arith;
-  before = completes reading;
-  here = λ l rest p. let z : p ≡ p + 0 = omega arith in ap (or_wrong p (λ b. read_on (p + 1) b rest)) n ∙ ap Err z;
-})
+at_word place j reading word words n e = (
+  0,
+  err_same place j e,
+  record {
+    within = omega arith;
+    before = completes reading;
+    here = λ l rest p. let z : p ≡ p + 0 = omega arith in ap (or_wrong p (λ b. read_on (p + 1) b rest)) n ∙ ap Err z;
+  },
+)
 
 further : (place j : ℕ) (reading next : Reading) (word : Word) (words : List Word) → read_word reading word ≡ Some next → StopsAt (place + 1) next words j → StopsAt place reading (word ∷ words) j
-further place j reading next word words e s = (suc s.0, let p = s.1 in omega arith, record {
-  within = let w = s.2.within in omega arith;
-  before = behind word reading next (take s.0 words) e s.2.before;
-  here = λ l rest p.
-    let q : (p + 1) + s.0 ≡ p + suc s.0 = omega arith in
-    let n : suc s.0 + 1 ≡ suc (s.0 + 1) = omega arith in
-    rw n (ap (or_wrong p (λ b. read_on (p + 1) b (take (s.0 + 1) words ++ rest))) e ∙ s.2.here (omega arith) rest (p + 1) ∙ ap Err q);
-})
+further place j reading next word words e s = (
+  suc s.0,
+  let p = s.1 in omega arith,
+  record {
+    within = let w = s.2.within in omega arith;
+    before = behind word reading next (take s.0 words) e s.2.before;
+    here = λ l rest p.
+        let q : (p + 1) + s.0 ≡ p + suc s.0 = omega arith in
+        let n : suc s.0 + 1 ≡ suc (s.0 + 1) = omega arith in
+        rw n (ap (or_wrong p (λ b. read_on (p + 1) b (take (s.0 + 1) words ++ rest))) e ∙ s.2.here (omega arith) rest (p + 1) ∙ ap Err q);
+  },
+)
 
 stops : (words : List Word) (place j : ℕ) (reading : Reading) → read_on place reading words ≡ Err j → StopsAt place reading words j
 stops [] place j reading e = at_end place j reading e

@@ -3,3 +3,4 @@ pub mod FirstWrong
 pub mod Budget
 pub mod Bounds
 pub mod Steps
+pub mod Prefixes

@@ -114,9 +114,18 @@ impl Asked {
         ensures { result ≡ with_value key value self }
     {
         match key {
-            Key::Partitions => Asked { partitions: Some(value), ..self },
-            Key::Every => Asked { every: Some(value), ..self },
-            Key::Turns => Asked { turns: Some(value), ..self },
+            Key::Partitions => Asked {
+                partitions: Some(value),
+                ..self
+            },
+            Key::Every => Asked {
+                every: Some(value),
+                ..self
+            },
+            Key::Turns => Asked {
+                turns: Some(value),
+                ..self
+            },
         }
     }
 
@@ -162,7 +171,11 @@ impl Asked {
         ensures { result ≡ read_drain self word.now }
     {
         if word == "--drain" && !self.drain {
-            Some(Asked { drain: true, ..self }.at(Place::Options))
+            Some(Asked {
+                drain: true,
+                ..self
+            }
+            .at(Place::Options))
         } else {
             None
         }
@@ -185,7 +198,11 @@ impl Asked {
         let _partitions = self.partitions?;
         let every = self.every?;
         let turns = self.turns?;
-        Some(RunWords { every, turns, drain: self.drain })
+        Some(RunWords {
+            every,
+            turns,
+            drain: self.drain,
+        })
     }
 }
 

@@ -7,5 +7,5 @@ use Rattle.run_words.proofs.words.words_asked.Given as goal
 abbrev pub invariant-loop-next : goal.invariant-loop-next
 invariant-loop-next l = record {
   same : read_on l.word l.reading (drop l.next-index (map string_bytes l.words)) ≡ words_asked (map string_bytes l.words);
-  few : l.word + left l.reading ≤ 10
+  few : l.word + left l.reading ≤ 10;
 }
