@@ -3,6 +3,8 @@
 
 mod numbers;
 mod reading;
+#[cfg(test)]
+mod tests;
 mod words;
 
 pub use words::{RunWords, WordsFault, read_run_words};
