@@ -1,10 +1,6 @@
 -- Each answer of a record is one that was given to its request.
-use Rattle.std.proofs.Common.{◌≡◌, ◌∙◌, refl, sym, ap, subst, ℕ, ◌+◌, ◌<◌, ◌≤◌, List, [], ◌∷◌, ◌++◌, length, append_assoc, append-nil, Bool, true, false, cond, ◌⊎◌, inl, inr, Option, Some, None, option_map, arith, nat_lt, nat_eq, eqb-true}
-use Rattle.std.specs.Prelude.{Contains, IfSome, ◌&&◌, nat_le}
-use Rattle.std.specs.Option.{option_to_list}
-use Rattle.std.specs.List.{AllByRecursion, IsDistinct}
-use Rattle.std.specs.Cmp.{first_so, second_so}
-use Rattle.std.proofs.lemmas.Bool.{false_from_ne_true, leb-true, leb-false}
+use Rattle.std.proofs.Common.{◌≡◌, ◌∙◌, refl, sym, ap, subst, ℕ, ◌+◌, ◌≤◌, List, [], ◌∷◌, ◌++◌, length, append-nil, Bool, true, false, cond, ◌⊎◌, inl, inr, Option, Some, None, arith, nat_lt}
+use Rattle.std.specs.Prelude.{Contains, IfSome}
 use Rattle.std.proofs.lemmas.List.Elements.{Contains-push_cases}
 use Rattle.sf_outside.specs.Told.{more}
 use Rattle.sf_outside.specs.Splits.{Lists}
@@ -28,7 +24,7 @@ use Rattle.run_record.specs.declared.entry.Step.TheVariants as step
 use Rattle.run_record.specs.declared.entry.Reply.{Reply}
 use Rattle.run_record.specs.Machine.{State, Act, reply_of, took, served, declared, sent_later}
 use Rattle.run_record.specs.Record.{step_after}
-use Rattle.run_record.specs.Backed.{IsBackedReply, AreBacked, calls_of, same_call}
+use Rattle.run_record.specs.Backed.{IsBackedReply, AreBacked, same_call}
 use Rattle.run_record.proofs.Backing.{AreBacked-more, AreBacked-push}
 use Rattle.partition_core.specs.Batches.{request_bytes, opened_at}
 use Rattle.partition_core.specs.Work.{Work, state_of}
@@ -37,13 +33,12 @@ use Rattle.statefun_driver.specs.declared.end.End.TheVariants.{TurnsSpent, Endpo
 use Rattle.statefun_driver.specs.Seen.{Event, Read, Now, Start, Poll, Fails, Seen, Hears, HearsPoll}
 use Rattle.statefun_driver.specs.Turns.{Plan, Control, Phase, Reading, Asking, Opening, Waiting, Stopped, Asked, Origin, first_control, rested as at_rest, goes_on_behind, begun, at, entry_of, recorded, own_now, call_of, own_part, reply_to}
 use Rattle.statefun_driver.specs.Turns.{taken_in, size_of, read_from, read_on, take_record, finish_phase, finish, open_batch, with_reason, attempts_at, tried_phase}
-use Rattle.statefun_driver.specs.Traces.{IsFront}
 use Rattle.statefun_driver.specs.Runs.{link_part, IsRead}
 use Rattle.statefun_driver.specs.Stretches.{base_of, AreUpTo, IsBackedBehind}
 use Rattle.statefun_driver.specs.Origins.{IsHeld}
 use Rattle.statefun_driver.proofs.Moving.{Moved, BrokeOff, ReadNone, ReadLarge, Took, SawMoment, Began, PolledNone, FailedBy, Accepts, Misses, accepted, missed}
 use Rattle.statefun_driver.proofs.Journal.{journal_one}
-use Rattle.statefun_driver.proofs.Apart.{IsBefore, IsBeforeIn, IsLater, at_most, same_call_is, not_next, later_call, rests, ends, before_in, silent_later}
+use Rattle.statefun_driver.proofs.Apart.{IsBefore, IsBeforeIn, at_most, same_call_is, not_next, later_call, rests, ends, before_in, silent_later}
 use Rattle.statefun_driver.proofs.Resting.{Rests, rest_finish, rest_open, rest_read, rest_read_on}
 use Rattle.statefun_driver.proofs.Standing.{Laws, IsFlying, IsSound, answer_asked, makes_take, makes_batch, makes_register, held_recorded, stands_in, later}
 use Rattle.statefun_driver.proofs.Ways.{Silent, Phased, Opened, Marked, Sent, Thens, silent_open, silent_read, silent_read_on}
