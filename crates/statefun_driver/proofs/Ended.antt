@@ -1,6 +1,7 @@
 -- Turns that came to an end are a run, with all that is said of one.
 use Rattle.std.proofs.Common.{◌≡◌, ◌∙◌, refl, sym, subst, List, [], ◌++◌, true, false, Option, Some, arith, append-nil}
 use Rattle.std.specs.Prelude.{IfSome}
+use Rattle.std.specs.List.{IsDistinct}
 use Rattle.sf_outside.specs.Splits.{Lists}
 use Rattle.sf_outside.specs.declared.call.LinkEvent.{LinkEvent}
 use Rattle.address_routing.specs.declared.module.Module.{Module}
@@ -8,7 +9,7 @@ use Rattle.run_record.specs.declared.entry.Entry.{Entry}
 use Rattle.run_record.specs.Machine.{State, first_state}
 use Rattle.run_record.specs.Record.{replayed}
 use Rattle.run_record.specs.Egress.{egress_of}
-use Rattle.run_record.specs.Backed.{AreBacked}
+use Rattle.run_record.specs.Backed.{AreBacked, calls_of, same_call}
 use Rattle.partition_core.specs.Work.{state_of}
 use Rattle.statefun_driver.specs.declared.end.Broken.TheVariants.{Memory}
 use Rattle.statefun_driver.specs.declared.end.End.TheVariants.{Broke}
@@ -20,7 +21,8 @@ use Rattle.statefun_driver.specs.Origins.{IsSoundOrigin}
 use Rattle.statefun_driver.specs.Stretches.{base_of, ReplaysBehind, AreUpTo, IsBackedBehind}
 use Rattle.statefun_driver.specs.Laws.{EndsAreRuns, TracesAreStretches}
 use Rattle.statefun_driver.proofs.Replays.{state_first, front_replays}
-use Rattle.statefun_driver.proofs.Backed.{backed_front, distinct_of_front}
+use Rattle.statefun_driver.proofs.Apart.{distinct_of_front}
+use Rattle.statefun_driver.proofs.Backed.{backed_front}
 use Rattle.statefun_driver.proofs.Stretching.{first_phase, front_end, where_told}
 
 -- nothing was done yet
@@ -47,11 +49,11 @@ replays_front m told last entries front h =
 up_to_none : (done : List LinkEvent) → IsFresh done → AreUpTo 0 done
 up_to_none done fresh call url request x = let none = fresh call url request x in omega (arith, none)
 
-backed_run : (m : Module) (told : Lists) (now : Seen) (last : Control) (entries : List Entry) → IsFront entries last.entries → IsBackedBehind m told no_origin now last → IsBackedRun m told now.exchanges entries
-backed_run m told now last entries front h = record {
+backed_run : (m : Module) (told : Lists) (now : Seen) (last : Control) (entries : List Entry) → IsFront entries last.entries → IsDistinct same_call (calls_of last.entries) → IsBackedBehind m told no_origin now last → IsBackedRun m told now.exchanges entries
+backed_run m told now last entries front apart h = record {
   backed = backed_front now.exchanges m told first_state entries front.0
       (subst (λ (st : State). AreBacked now.exchanges m told st (entries ++ front.0)) (sym state_first) (subst (AreBacked now.exchanges m told (base_of no_origin)) front.1 h.backed));
-  distinct = distinct_of_front entries last.entries front h.distinct;
+  distinct = distinct_of_front entries last.entries front apart;
 }
 
 -- memory may run out before anything is done
@@ -78,7 +80,7 @@ ends_are_runs stretches plan before now entries end routable modest ends =
           (λ told e. where_told before.journal (λ (done : List LinkEvent). IsFresh done → IsBackedRun plan.routes told now.exchanges entries)
           (λ done j fresh.
           let k = told_at now.lists (λ (told : Lists). IfSome before.journal (λ done. AreUpTo 0 done → IsBackedBehind plan.routes told no_origin now last)) told e st.backed in
-          backed_run plan.routes told now last entries front (told_at before.journal (λ (done : List LinkEvent). AreUpTo 0 done → IsBackedBehind plan.routes told no_origin now last) done j k (up_to_none done fresh))));
+          backed_run plan.routes told now last entries front st.distinct (told_at before.journal (λ (done : List LinkEvent). AreUpTo 0 done → IsBackedBehind plan.routes told no_origin now last) done j k (up_to_none done fresh))));
       bounded = st.bounded;
       cause = truly.cause;
       tried = truly.tried;

@@ -26,6 +26,7 @@ mod Causes
 mod Delivered
 mod Emptied
 mod Replays
+mod Apart
 mod Backed
 mod Numbered
 mod Stretching

@@ -10,7 +10,7 @@ use Rattle.batch_queue.specs.Post.{Post, waits, is_ready, with_letters, put}
 use Rattle.run_record.specs.declared.entry.Step.{Step}
 use Rattle.run_record.specs.declared.entry.Step.TheVariants as step
 use Rattle.partition_core.specs.Work.{settled, put_all}
-use Rattle.statefun_driver.specs.Origins.{AreReady}
+use Rattle.partition_core.specs.Laws.{AreReady}
 
 pub same_itself : (address : Address) → same_address address address ≡ true
 same_itself address = (same_address-Decides address address).1 refl

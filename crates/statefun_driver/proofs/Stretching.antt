@@ -32,6 +32,7 @@ use Rattle.statefun_driver.proofs.Delivered.{WasRead, read_event, first_read, de
 use Rattle.statefun_driver.proofs.Emptied.{AreKept, kept_event, kept_first, none_left, none_at_done, none_at_rest, idle_empty}
 use Rattle.statefun_driver.proofs.Replays.{IsReplayed, replays_event, replays_first, replays_given}
 use Rattle.statefun_driver.proofs.Backed.{KnownBy, known_event, known_first, backed_behind}
+use Rattle.statefun_driver.proofs.Apart.{AreApart, apart_event, apart_first, apart_calls}
 use Rattle.statefun_driver.proofs.Numbered.{AreOrdered, ordered_event, ordered_first, ordered_turn, ordered_entries, ordered_calls}
 
 -- ---- the module
@@ -157,6 +158,9 @@ module _ (laws : Laws) (plan : Plan) (fit : IsFit plan.routes) (start : Origin) 
   ordered : AreOrdered start last
   ordered = along laws plan fit q (λ c p. AreOrdered start c) (λ c p event x r s asked m heard grows h. ordered_event laws plan start c event x s m h) first o events last t sound_at (ordered_first plan start)
 
+  apart : AreApart last
+  apart = along laws plan fit q (λ c p. AreApart c) (λ c p event x r s asked m heard grows h. apart_event laws plan c event x s m h) first o events last t sound_at (apart_first plan start)
+
   replay : (told : Lists) → q.lists ≡ Some told → ReplaysBehind plan.routes told start last
   replay told e =
       replays_given plan.routes told start last
@@ -223,6 +227,7 @@ module _ (laws : Laws) (plan : Plan) (fit : IsFit plan.routes) (start : Origin) 
         (λ done j fresh. let k = known told e done j fresh in backed_behind plan.routes told start last q k.0 k.1));
     entries = ordered_entries start last ordered;
     calls = ordered_calls start last ordered;
+    distinct = apart_calls last apart;
     rising = (ordered.order).rising;
     turn = ordered_turn start last ordered;
     moment = (ordered.order).moment;

@@ -6,14 +6,10 @@ use Rattle.typed_values.specs.declared.cells.Cell.{Cell}
 use Rattle.typed_values.specs.Sameness.{same_address}
 use Rattle.batch_queue.specs.Post.{Post, is_ready}
 use Rattle.partition_core.specs.Work.{Work}
-use Rattle.partition_core.specs.Laws.{IsOwned}
+use Rattle.partition_core.specs.Laws.{IsOwned, AreReady}
 use Rattle.statefun_driver.specs.Turns.{Origin}
 
 -- ---- the line
-
--- who is in line has letters, and none of them is in flight
-abbrev pub AreReady : Post → Type 0
-AreReady post = AllByRecursion (λ (address : Address). is_ready post address ≡ true) post.ready
 
 -- who has letters, none of them in flight, is in line
 abbrev pub AreLined : Post → Type 0

@@ -65,7 +65,6 @@ AreUpTo turn events = (call : Call) (url request : List ℕ) → Contains events
 -- each answer is one that its endpoint gave to that request under that call
 pub record IsBackedBehind (m : Module) (told : Lists) (start : Origin) (now : Seen) (last : Control) : Type 0 where
   pub backed : AreBacked now.exchanges m told (base_of start) last.entries
-  pub distinct : IsDistinct same_call (calls_of last.entries)
   pub journal : IfSome now.journal (AreUpTo last.turn)
 
 -- ---- ends
@@ -88,6 +87,7 @@ pub record IsStretch (plan : Plan) (start : Origin) (before now : Seen) (events 
   pub backed : IfSome now.lists (λ told. IfSome before.journal (λ done. AreUpTo start.turn done → IsBackedBehind plan.routes told start now last))
   pub entries : AllByRecursion (IsEntryOf start last) last.entries
   pub calls : AreCallsOf start last (calls_of last.entries)
+  pub distinct : IsDistinct same_call (calls_of last.entries)
   pub rising : AreRising last.entries
   -- what is left
   pub turn : start.turn ≤ last.turn

@@ -225,7 +225,7 @@ impl Progress {
 
     /// The next turn begins, at the greatest moment so far.
     fn begin(&mut self, now: u64)
-        requires { self.old.turn < 2 ^ 63 }
+        requires { self.old.turn + 1 < 2 ^ 64 }
         ensures { self.new ≡ record self.old {
           turn = self.old.turn + 1;
           moment = max self.old.moment now;
@@ -249,7 +249,7 @@ impl Progress {
         outside: &mut O,
     ) -> Result<(), End>
         requires counts { vec_len self.old.counts ≡ job.now.splits }
-        requires turn { self.old.turn < 2 ^ 63 }
+        requires turn { self.old.turn + 1 < 2 ^ 64 }
         requires attempts { AreModest job.now.routes.endpoints }
         ensures led { Led (plan_of job.now) (at Asking (here self.old)) (O.seen outside.old)
             result (finish (plan_of job.now) (here self.new)) self.new.entries (O.seen outside.new) }
@@ -268,7 +268,7 @@ impl Progress {
     pub fn leg<O: Outside>(&mut self, alloc: Global, job: &Job, outside: &mut O) -> Result<(), End>
         requires driven { job.now.rests ≡ true }
         requires splits { splits_of self.old ≡ job.now.splits }
-        requires turn { (here self.old).turn < 2 ^ 63 }
+        requires turn { (here self.old).turn + 1 < 2 ^ 64 }
         requires attempts { AreModest job.now.routes.endpoints }
         ensures led { Led (plan_of job.now) (here self.old) (O.seen outside.old) result (here self.new) (here self.new).entries (O.seen outside.new) }
         ensures splits { splits_of self.new ≡ splits_of self.old }
