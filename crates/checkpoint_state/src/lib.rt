@@ -2,6 +2,7 @@
 #![tactic(auto)]
 
 mod laws;
+mod matching;
 
 pub use laws::{
     a_checkpoint_behind_a_good_record_is_good, a_later_leg_keeps_what_is_good,
@@ -10,3 +11,7 @@ pub use laws::{
     longer_lists_keep_what_is_good, no_checkpoint_is_good, the_last_checkpoint_is_loaded,
     the_next_record_is_backed, what_is_stored_is_a_partition, work_leads_on_behind_egress,
 };
+pub use matching::{machine_of, matches};
+
+#[cfg(test)]
+mod tests;

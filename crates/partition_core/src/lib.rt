@@ -20,3 +20,4 @@ pub use laws::{
 };
 pub use opened::Opened;
 pub use partition::Partition;
+pub use restoring::restored_cells;

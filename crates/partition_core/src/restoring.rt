@@ -80,8 +80,8 @@ impl Actors {
     }
 }
 
-/// The cells that were kept.
-fn restored_cells(alloc: Global, kept: List<CellState>) -> Mem<Cells>
+/// The cells that were kept: at most 64, each of another name and of a known mode, with a value of at most 1,048,576 bytes.
+pub fn restored_cells(alloc: Global, kept: List<CellState>) -> Mem<Cells>
     requires { are_cells kept ≡ true }
     ensures { IfOk result (λ cells. cells ≡ map cell_of kept) }
 {
