@@ -60,6 +60,7 @@ impl Outlet {
         ensures unchanged { result ≡ Ok false → D.moments disk.new ≡ D.moments disk.old }
         ensures same { result ≡ Ok false → self.new ≡ self.old }
         ensures is_new { IfOk result (λ made. IsTrue made ↔ (last_epoch self.old < number)) }
+        ensures counted { result ≡ Ok true → last_epoch self.new ≡ last_epoch self.old + 1 }
         ensures spent { IsErr result ↔ IsTrue self.new.spent }
         ensures form { IfErr result IsNoRefusal }
         ensures cause { HasStoreCause (D.faults disk.old) (D.faults disk.new) result }

@@ -1,1 +1,3 @@
-mod Behind
+pub mod Behind
+pub mod Alike
+pub mod Exactly

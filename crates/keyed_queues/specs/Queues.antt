@@ -1,5 +1,6 @@
 -- Maps from keys to lists, where a key that is not there has the empty list.
-use Rattle.std.specs.Prelude.{◌≡◌, ℕ, List, [], ◌++◌, Bool, ◌&&◌, map, filter, unwrap_or}
+use Rattle.std.specs.Prelude.{◌≡◌, ℕ, List, [], ◌++◌, Bool, ◌&&◌, map, filter, unwrap_or, Option, Some}
+use Rattle.std.specs.List.{AllByRecursion}
 use Rattle.std.specs.Ordering.{is_eq}
 use Rattle.std.specs.declared.cmp.Ordering.{Ordering}
 use Rattle.std.specs.BTreeMap.{BTreeMap, get}
@@ -53,3 +54,19 @@ HasBehind {A} {B} outer_compare inner_compare before items after =
 -- the number of a key; one that is not there has 0
 abbrev pub number_at : {K : Type 0} → (K → K → Ordering) → BTreeMap K ℕ → K → ℕ
 number_at compare numbers key = unwrap_or (get compare numbers key) 0
+
+-- ---- maps that say the same of each key
+
+-- what a map has at a key, read by a function that also says what a key that is not there has: each entry is read alike in another map
+abbrev pub AreReadIn : {K V M : Type 0} → (K → K → Ordering) → (Option V → M) → BTreeMap K V → List (K × V) → Type 0
+AreReadIn {K} {V} compare read other entries = AllByRecursion (λ (entry : K × V). read (Some entry.1) ≡ read (get compare other entry.0)) entries
+
+abbrev pub list_of : {X : Type 0} → Option (List X) → List X
+list_of list = unwrap_or list []
+
+abbrev pub lists_of : {B X : Type 0} → (B → B → Ordering) → Option (Shelf B X) → B → List X
+lists_of {B} {X} compare shelf inner = option_map_or (λ (kept : Shelf B X). list_at compare kept.queues inner) shelf []
+
+-- no entry has a value
+abbrev pub AreBlank : {K X : Type 0} → List (K × List X) → Type 0
+AreBlank {K} {X} entries = AllByRecursion (λ (entry : K × List X). entry.1 ≡ []) entries

@@ -1,6 +1,7 @@
 //! Queues.
-ghost use Rattle.std.specs.Prelude.{◌≡◌, ◌+◌, ◌-◌, [], ◌∷◌, ◌++◌, drop, take, length, slice_get, OnOk, OnErr, IsTrue, option_copied};
+ghost use Rattle.std.specs.Prelude.{◌≡◌, ◌+◌, ◌-◌, [], ◌∷◌, ◌++◌, drop, take, length, slice_get, OnOk, OnErr, IsTrue, ◌↔◌, option_copied};
 
+use crate::exact::Exact;
 use proto_wire::Mem;
 use std::alloc::Global;
 use std::collections::VecDeque;
@@ -35,7 +36,7 @@ impl<T> Queue<T> {
 
     /// Whether there are no values.
     pub fn is_empty(&self) -> bool
-        ensures { IsTrue result → self.now ≡ [] }
+        ensures { IsTrue result ↔ (self.now ≡ []) }
     {
         self.items.is_empty()
     }
@@ -70,5 +71,22 @@ impl<T: Drop> Queue<T> {
         ensures { self.new ≡ take (length self.old - 1) self.old }
     {
         let _last = self.items.pop_back();
+    }
+}
+
+impl<T: Exact> Queue<T> {
+    /// Whether another queue has the same values in the same order. Takes no memory.
+    pub fn same(&self, other: &Queue<T>) -> bool
+        ensures { IsTrue result ↔ (self.now ≡ other.now) }
+    {
+        if self.items.len() != other.items.len() {
+            return false;
+        }
+        for place in 0..self.items.len() {
+            if !self.items[place].same(&other.items[place]) {
+                return false;
+            }
+        }
+        true
     }
 }

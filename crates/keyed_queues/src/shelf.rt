@@ -1,7 +1,9 @@
 //! Queues by key.
-ghost use Rattle.std.specs.Prelude.{◌≡◌, ◌+◌, ◌-◌, [], ◌∷◌, ◌++◌, drop, take, length, slice_get, OnOk, OnErr, IsTrue, option_copied};
-ghost use Rattle.keyed_queues.specs.Queues.{AreExact, list_at, SetsAt};
+ghost use Rattle.std.specs.Prelude.{◌≡◌, ◌+◌, ◌-◌, [], ◌∷◌, ◌++◌, drop, take, length, slice_get, OnOk, OnErr, IsTrue, ◌↔◌, option_copied};
+ghost use Rattle.std.specs.BTreeMap.{IsOrdered};
+ghost use Rattle.keyed_queues.specs.Queues.{AreBlank, AreExact, AreReadIn, list_at, list_of, SetsAt};
 
+use crate::exact::Exact;
 use crate::queue::Queue;
 use proto_wire::{Mem, TryClone};
 use std::alloc::Global;
@@ -101,5 +103,57 @@ impl<K: Key, T: Drop> Shelf<K, T> {
         ensures { IsTrue result → (key : K) → list_at K.cmp self.now.queues key ≡ [] }
     {
         self.queues.is_empty()
+    }
+}
+
+impl<K: Key, T: Exact> Shelf<K, T> {
+    /// Whether each key has in another shelf the list that it has in this one. Takes no memory.
+    pub fn same(&self, other: &Shelf<K, T>) -> bool
+        ensures { IsTrue result ↔ ((key : K) → list_at K.cmp self.now.queues key ≡ list_at K.cmp other.now.queues key) }
+    {
+        self.is_in(other) && other.is_in(self)
+    }
+
+    // Whether each key that has a queue has the same list in another shelf.
+    fn is_in(&self, other: &Shelf<K, T>) -> bool
+        ensures alike { IsTrue result ↔ AreReadIn K.cmp list_of other.now.queues self.now.queues.entries }
+        ensures ordered { IsOrdered K.cmp self.now.queues }
+    {
+        for (key, queue) in &self.queues {
+            if !other.has(key, queue) {
+                return false;
+            }
+        }
+        true
+    }
+
+    // Whether a list is that of a key.
+    fn has(&self, key: &K, queue: &Queue<T>) -> bool
+        ensures { IsTrue result ↔ (queue.now ≡ list_at K.cmp self.now.queues key.now) }
+    {
+        match self.queues.get(key) {
+            Some(own) => queue.same(own),
+            None => queue.is_empty(),
+        }
+    }
+
+    /// Whether no key has a value. Takes no memory.
+    pub fn is_blank(&self) -> bool
+        ensures { IsTrue result ↔ ((key : K) → list_at K.cmp self.now.queues key ≡ []) }
+    {
+        self.are_blank()
+    }
+
+    // Whether each queue that is there is empty.
+    fn are_blank(&self) -> bool
+        ensures blank { IsTrue result ↔ AreBlank self.now.queues.entries }
+        ensures ordered { IsOrdered K.cmp self.now.queues }
+    {
+        for (_key, queue) in &self.queues {
+            if !queue.is_empty() {
+                return false;
+            }
+        }
+        true
     }
 }

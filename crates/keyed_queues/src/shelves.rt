@@ -1,8 +1,10 @@
 //! Queues by pairs of keys.
-ghost use Rattle.std.specs.Prelude.{◌≡◌, ◌+◌, ◌-◌, [], ◌∷◌, ◌++◌, drop, take, length, slice_get, OnOk, OnErr, IfOk, IsTrue, option_copied, List, map};
-ghost use Rattle.keyed_queues.specs.Queues.{list_in, ChangesIn, HasBehind, place_of};
+ghost use Rattle.std.specs.Prelude.{◌≡◌, ◌+◌, ◌-◌, [], ◌∷◌, ◌++◌, drop, take, length, slice_get, OnOk, OnErr, IfOk, IsTrue, ◌↔◌, Some, option_copied, List, map};
+ghost use Rattle.std.specs.BTreeMap.{get, IsOrdered};
+ghost use Rattle.keyed_queues.specs.Queues.{AreReadIn, lists_of, list_in, ChangesIn, HasBehind, place_of};
 ghost use Rattle.keyed_queues.specs.declared.shelves.Placed.{Placed};
 
+use crate::exact::Exact;
 use crate::shelf::{Key, Shelf};
 use proto_wire::{Mem, OutOfMemory};
 use std::alloc::{AllocFailed, Global};
@@ -163,6 +165,39 @@ impl<A: Key, B: Key, T: Drop> Shelves<A, B, T> {
         for gone in 0..places.len() {
             let place = &places[places.len() - 1 - gone];
             self.drop_last(&place.outer, &place.inner);
+        }
+    }
+}
+
+impl<A: Key, B: Key, T: Exact> Shelves<A, B, T> {
+    /// Whether each pair of keys has in other shelves the list that it has in these. Takes no memory.
+    pub fn same(&self, other: &Shelves<A, B, T>) -> bool
+        ensures { IsTrue result ↔ ((a : A) → (b : B) →
+            list_in A.cmp B.cmp self.now.shelves a b ≡ list_in A.cmp B.cmp other.now.shelves a b) }
+    {
+        self.is_in(other) && other.is_in(self)
+    }
+
+    // Whether each outer key that has a shelf has the same lists in other shelves.
+    fn is_in(&self, other: &Shelves<A, B, T>) -> bool
+        ensures alike { IsTrue result ↔ AreReadIn A.cmp (lists_of B.cmp) other.now.shelves self.now.shelves.entries }
+        ensures ordered { IsOrdered A.cmp self.now.shelves }
+    {
+        for (outer, shelf) in &self.shelves {
+            if !other.has(outer, shelf) {
+                return false;
+            }
+        }
+        true
+    }
+
+    // Whether the lists of a shelf are those of an outer key.
+    fn has(&self, outer: &A, shelf: &Shelf<B, T>) -> bool
+        ensures { IsTrue result ↔ (lists_of B.cmp (Some shelf.now) ≡ lists_of B.cmp (get A.cmp self.now.shelves outer.now)) }
+    {
+        match self.shelves.get(outer) {
+            Some(own) => shelf.same(own),
+            None => shelf.is_blank(),
         }
     }
 }

@@ -1,8 +1,12 @@
 mod Idle
 mod Changing
-mod Posting
+pub mod Posting
 mod Delaying
 mod TheMachine
 mod Fitting
 mod Sending
 mod InTurn
+mod KeptCells
+mod KeptStates
+mod PutBack
+mod KeptWaiting

@@ -1,4 +1,6 @@
 pub mod Work
 pub mod Batches
 pub mod Kept
+pub mod KeptWork
+pub mod States
 pub mod Laws

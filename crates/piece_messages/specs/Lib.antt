@@ -1,3 +1,4 @@
 pub mod Stored
 pub mod States
 pub mod Spelling
+pub mod Stands

@@ -32,10 +32,10 @@ use Rattle.run_record.proofs.Picks.{count-push, same_function}
 
 -- ---- the orders test sameness
 
-names_total : IsTotalOrder name_order
+pub names_total : IsTotalOrder name_order
 names_total = then_total (on_total (λ (n : TypeName). n.namespace) nat_list_cmp_total) (on_total (λ (n : TypeName). n.name) nat_list_cmp_total)
 
-addresses_total : IsTotalOrder address_order
+pub addresses_total : IsTotalOrder address_order
 addresses_total = then_total (on_total (λ (a : Address). a.kind) names_total) (on_total (λ (a : Address). a.id) nat_list_cmp_total)
 
 sender_itself : (x : Sender) → is_eq (sender_order x x) ≡ true
@@ -171,7 +171,7 @@ own_taken split taken taken' parts act counts is (Split n) = go (nat_eq split n)
 pub counted_from : (split : ℕ) (taken room taken' : List ℕ) → ((n : ℕ) → get_or room n 0 ≡ get_or taken n 0) → CountsOne split (λ (n : ℕ). get_or room n 0) (λ (n : ℕ). get_or taken' n 0) → CountsOne split (λ (n : ℕ). get_or taken n 0) (λ (n : ℕ). get_or taken' n 0)
 counted_from split taken room taken' same counts = record { here = counts.here ∙ ap (λ n. n + 1) (same split); others = λ other apart. counts.others other apart ∙ same other }
 
-not_split : (address : Address) (n : ℕ) → same_sender (Function address) (Split n) ≡ false
+pub not_split : (address : Address) (n : ℕ) → same_sender (Function address) (Split n) ≡ false
 unfolding same_sender
 not_split address n = refl
 

@@ -21,3 +21,5 @@ pub mod ByActors
 pub mod ByKeys
 pub mod LawsOfAnswers
 pub mod Applied
+pub mod Same
+pub mod Filled

@@ -1,5 +1,5 @@
 -- When the answers of a record are its endpoints' own.
-use Rattle.std.specs.Prelude.{◌≡◌, ℕ, List, [], ◌∷◌, Option, Some, IfSome, Contains}
+use Rattle.std.specs.Prelude.{◌≡◌, ℕ, nat_eq, Bool, ◌&&◌, List, [], ◌∷◌, Option, Some, IfSome, Contains}
 use Rattle.std.specs.Option.{option_map, option_to_list}
 use Rattle.std.specs.List.{flat_map}
 use Rattle.sf_outside.specs.declared.call.Call.{Call}
@@ -42,3 +42,6 @@ AreBacked exchanges m lists st (entry ∷ entries) =
 -- the calls of a record, in its order
 abbrev pub calls_of : List Entry → List Call
 calls_of entries = flat_map (λ entry. option_to_list (option_map (λ (reply : Reply). reply.call) (reply_of entry.step))) entries
+
+abbrev pub same_call : Call → Call → Bool
+same_call a b = nat_eq a.leg b.leg && nat_eq a.partition b.partition && nat_eq a.turn b.turn

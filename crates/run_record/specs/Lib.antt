@@ -9,3 +9,4 @@ pub mod StateOf
 pub mod Replays
 pub mod Actors
 pub mod Spelled
+pub mod Filled

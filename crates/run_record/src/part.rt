@@ -1,5 +1,5 @@
 //! What an address has of its own.
-ghost use Rattle.std.specs.Prelude.{◌≡◌, ◌<◌, ◌≤◌, ◌+◌, map, length, IsTrue, IfOk, Ok, true, OnOk, OnErr, option_copied, slice_get};
+ghost use Rattle.std.specs.Prelude.{◌≡◌, ◌<◌, ◌≤◌, ◌+◌, map, length, IsTrue, ◌↔◌, IfOk, Ok, true, OnOk, OnErr, option_copied, slice_get};
 ghost use Rattle.typed_values.specs.Cells.{registered};
 ghost use Rattle.state_cells.specs.Answers.{registering};
 ghost use Rattle.state_cells.specs.Lifetimes.{Registers, after as cell_after, after_all as cells_after};
@@ -10,6 +10,7 @@ ghost use Rattle.run_record.specs.StateOf.{own_of, after_batch, after_registrati
 
 use delayed_messages::Delays;
 use invocation::{Change, DelayChange};
+use keyed_queues::{Exact, same_all};
 use proto_wire::{List, Mem, OutOfMemory};
 use state_cells::{CellFault, Cells};
 use std::alloc::Global;
@@ -49,7 +50,7 @@ impl Part {
     /// Whether it is nothing.
     #[tactic(auto, using(crate::proofs::Changes::is_nothing))]
     pub(crate) fn is_nothing(&self) -> bool
-        ensures { IsTrue result → own_of self.now ≡ nothing }
+        ensures { IsTrue result ↔ (own_of self.now ≡ nothing) }
     {
         if self.cells.len() > 0 || self.seen > 0 {
             return false;
@@ -58,6 +59,18 @@ impl Part {
             Some(_delay) => false,
             None => true,
         }
+    }
+
+    /// Whether another part is the same.
+    pub(crate) fn same(&self, other: &Part) -> Mem<bool>
+        ensures { IfOk result (λ same. IsTrue same ↔ (own_of self.now ≡ own_of other.now)) }
+    {
+        if self.seen != other.seen || !same_cells(&self.cells, &other.cells) {
+            return Ok(false);
+        }
+        let own = self.delays.waiting()?;
+        let others = other.delays.waiting()?;
+        Ok(same_all(own.as_slice(), others.as_slice()))
     }
 
     /// Makes room for so many delays.
@@ -185,4 +198,19 @@ fn register_new(cells: &mut Cells, spec: CellSpec) -> Mem<()>
         | Err(CellFault::TooMany)
         | Err(CellFault::TooLarge) => unreachable!(),
     }
+}
+
+/// Whether two addresses have the same cells in the same order.
+fn same_cells(one: &Cells, other: &Cells) -> bool
+    ensures { IsTrue result ↔ (one.now ≡ other.now) }
+{
+    if one.len() != other.len() {
+        return false;
+    }
+    for place in 0..one.len() {
+        if !one.at(place).same(other.at(place)) {
+            return false;
+        }
+    }
+    true
 }

@@ -2,7 +2,7 @@ mod Growing
 mod Writing
 mod Places
 mod Checkpoints
-mod Folding
+pub mod Folding
 mod Advancing
 mod AllOpened
 mod WholeManifest
@@ -10,4 +10,5 @@ mod FirstBlock
 mod WholeFolder
 mod Loads
 mod KeptCheckpoints
-mod OneThing
+pub mod OneThing
+pub mod Owned

@@ -7,7 +7,7 @@ ghost use Rattle.block_log.specs.Logs.{IsOpen};
 ghost use Rattle.store_faults.specs.Faults.{HasStoreCause};
 ghost use Rattle.folder_form.specs.Folders.{Contents, Files, Part, count_of, egress_in, egress_of, entries_of, feedback_of, loaded_of, nothing_loaded, pieces_of, record_of};
 ghost use Rattle.snapshot_files.specs.Stores.{IsStore, Pending, newest};
-ghost use Rattle.snapshot_files.specs.Reading.{HasComplete, HasPartsAt, IsUntold, RefusesComplete};
+ghost use Rattle.snapshot_files.specs.Reading.{Fits, FitsShape, HasComplete, HasPartsAt, IsUntold, RefusesComplete};
 
 use crate::Store;
 use crate::parts::body_at;
@@ -47,6 +47,7 @@ impl Store {
         requires usable { IsFalse self.now.spent }
         requires is_open { WhereTold (D.moments disk.old) (λ now. (contents : Contents) × (pending : (ℕ → Pending)) × IsStore self.now contents pending now) }
         ensures loaded { IfOk result (λ loaded. WhereTold (D.moments disk.old) (λ now. (contents : Contents) (pending : (ℕ → Pending)) → IsStore self.now contents pending now → loaded ≡ loaded_of contents)) }
+        ensures fits { IfOk result (FitsShape self.now.shape) }
         ensures refuses { IfErr result (IsUntold (D.moments disk.old)) }
         ensures same { D.moments disk.new ≡ D.moments disk.old }
         ensures cause { HasStoreCause (D.faults disk.old) (D.faults disk.new) result }
@@ -182,6 +183,7 @@ impl Store {
         requires is_open { WhereTold (D.moments disk.old) (λ now. (files : Files) × (parts : List Part) × HasPartsAt self.now moment places.now now files parts) }
         ensures pieces { IfOk result (λ read. WhereTold (D.moments disk.old) (λ now. (files : Files) (parts : List Part) → HasPartsAt self.now moment places.now now files parts → read.pieces ≡ pieces_of parts)) }
         ensures feedback { IfOk result (λ read. WhereTold (D.moments disk.old) (λ now. (files : Files) (parts : List Part) → HasPartsAt self.now moment places.now now files parts → read.feedback ≡ feedback_of parts)) }
+        ensures fits { IfOk result (λ read. Fits self.now.shape moment read.pieces read.feedback) }
         ensures refuses { IfErr result (IsUntold (D.moments disk.old)) }
         ensures same { D.moments disk.new ≡ D.moments disk.old }
         ensures cause { HasStoreCause (D.faults disk.old) (D.faults disk.new) result }

@@ -2,7 +2,7 @@
 ghost use Rattle.std.specs.Prelude.{◌≡◌, ◌≤◌, ℕ, Some, IfOk, IfErr, IsFalse, MatchOption};
 ghost use Rattle.sf_disk.specs.Moments.{Since, Becomes};
 ghost use Rattle.store_faults.specs.Faults.{HasStoreCause};
-ghost use Rattle.folder_form.specs.Shapes.{partitions_in};
+ghost use Rattle.folder_form.specs.Shapes.{partitions_in, shape_in};
 ghost use Rattle.snapshot_files.specs.Opening.{IsNew, IsOpened, IsOpenedKept, Opens, OpensKept, RefusesKept, RefusesStore};
 
 use crate::Store;
@@ -29,6 +29,7 @@ impl Store {
         ensures opened { IfOk result (λ store. Becomes (D.moments disk.old) (D.moments disk.new) (IsOpened store job.now)) }
         ensures text { IfOk result (λ store. store.text ≡ job.now) }
         ensures partitions { IfOk result (λ store. store.shape.partitions ≡ partitions) }
+        ensures shape { IfOk result (λ store. shape_in job.now ≡ Some store.shape) }
         ensures spent { IfOk result (λ store. IsFalse store.spent) }
         ensures refuses { IfErr result (RefusesStore job.now (D.moments disk.old)) }
         ensures cause { HasStoreCause (D.faults disk.old) (D.faults disk.new) result }

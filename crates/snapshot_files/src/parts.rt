@@ -1,10 +1,11 @@
 //! Reading the parts of a checkpoint.
-ghost use Rattle.std.specs.Prelude.{◌≡◌, ◌<◌, ◌+◌, List, IfOk, IfErr, IsFalse, Some, is_some};
+ghost use Rattle.std.specs.Prelude.{◌≡◌, ◌<◌, ◌+◌, List, IfOk, IfErr, IsFalse, Some, is_some, true};
 ghost use Rattle.sf_disk.specs.Moments.{WhereTold};
 ghost use Rattle.block_log.specs.Blocks.{Body};
 ghost use Rattle.block_log.specs.Logs.{IsOpen};
 ghost use Rattle.store_faults.specs.Faults.{HasStoreCause, RefusesUntold};
-ghost use Rattle.folder_form.specs.Folders.{Files, block_at, letters_in, piece_in, spelled_at};
+ghost use Rattle.folder_form.specs.Pieces.{owns_letters};
+ghost use Rattle.folder_form.specs.Folders.{Files, block_at, is_piece, letters_in, piece_in, spelled_at};
 ghost use Rattle.snapshot_files.specs.Stores.{AreOpen, home_in};
 ghost use Rattle.snapshot_files.specs.Reading.{BreaksThere};
 
@@ -54,6 +55,7 @@ impl Store {
         requires is_open { WhereTold (D.moments disk.old) (λ now. (files : Files) × AreOpen files now 2 self.now.logs.items) }
         ensures piece { IfOk result (λ piece. WhereTold (D.moments disk.old) (λ now. (files : Files) → AreOpen files now 2 self.now.logs.items
             → spelled_at (piece_in (home_in self.now.shape partition) moment) (block_at place (files (2 + partition))) ≡ Some piece)) }
+        ensures owned { IfOk result (λ piece. is_piece (home_in self.now.shape partition) moment piece ≡ true) }
         ensures refuses { IfErr result (BreaksThere self.now (D.moments disk.old) (2 + partition) place (λ body. is_some (piece_in (home_in self.now.shape partition) moment body))) }
         ensures same { D.moments disk.new ≡ D.moments disk.old }
         ensures cause { HasStoreCause (D.faults disk.old) (D.faults disk.new) result }
@@ -80,6 +82,7 @@ impl Store {
         requires is_open { WhereTold (D.moments disk.old) (λ now. (files : Files) × AreOpen files now 2 self.now.logs.items) }
         ensures letters { IfOk result (λ letters. WhereTold (D.moments disk.old) (λ now. (files : Files) → AreOpen files now 2 self.now.logs.items
             → spelled_at (letters_in (home_in self.now.shape partition)) (block_at place (files (2 + partition))) ≡ Some letters)) }
+        ensures owned { IfOk result (λ letters. owns_letters (home_in self.now.shape partition) letters ≡ true) }
         ensures refuses { IfErr result (BreaksThere self.now (D.moments disk.old) (2 + partition) place (λ body. is_some (letters_in (home_in self.now.shape partition) body))) }
         ensures same { D.moments disk.new ≡ D.moments disk.old }
         ensures cause { HasStoreCause (D.faults disk.old) (D.faults disk.new) result }

@@ -1,5 +1,5 @@
 -- A run of turns, with its end told.
-use Rattle.std.proofs.Common.{◌≡◌, ◌∙◌, ap, sym, subst, refl, inr, ℕ, List, []}
+use Rattle.std.proofs.Common.{◌≡◌, ◌∙◌, ap, sym, subst, refl, inr, ℕ, false, List, []}
 use Rattle.std.specs.Prelude.{Option, Result, Err}
 use Rattle.proto_wire.specs.declared.module_kind.ModuleKind.{ModuleKind}
 use Rattle.module_yaml.specs.declared.fault.ModuleFault.{ModuleFault as FileFault}
@@ -42,11 +42,11 @@ told-whole before after entries turns OutOfMemory e = part-whole before after _ 
 
 -- the turns of a run whose end was told
 pub turns-run : (m : Module) (turns : ℕ) (before after : Seen) (written written' : Option (List ℕ)) (entries given : List Entry) (came : End) (told end : PlainEnd)
-    → IsRun (record { routes = m; turns = turns }) before after entries came → given ≡ entries → told ≡ plain_end came → IsTold written written' entries turns told end
+    → IsRun (record { routes = m; turns = turns; rests = false }) before after entries came → given ≡ entries → told ≡ plain_end came → IsTold written written' entries turns told end
     → IsTurnsRun m turns (around before written) (around after written') given end
 turns-run m turns before after written written' entries given came told end run same is tells = record {
   came = came;
-  run = subst (λ (es : List Entry). IsRun (record { routes = m; turns = turns }) before after es came) (sym same) run;
+  run = subst (λ (es : List Entry). IsRun (record { routes = m; turns = turns; rests = false }) before after es came) (sym same) run;
   told = subst (λ (es : List Entry). IsTold written written' es turns (plain_end came) end) (sym same) (subst (λ (why : PlainEnd). IsTold written written' entries turns why end) is tells);
 }
 

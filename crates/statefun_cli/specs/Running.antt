@@ -1,5 +1,5 @@
 -- A run of a module without a folder: what it comes to, and what is written of it.
-use Rattle.std.specs.Prelude.{◌≡◌, ◌≤◌, ◌+◌, ◌⊎◌, ℕ, List, [], ◌++◌, length, take, Option, Result, Ok, Err}
+use Rattle.std.specs.Prelude.{◌≡◌, ◌≤◌, ◌+◌, ◌⊎◌, ℕ, false, List, [], ◌++◌, length, take, Option, Result, Ok, Err}
 use Rattle.sf_outside.specs.declared.call.LinkEvent.{LinkEvent}
 use Rattle.sf_outside.specs.declared.call.Exchange.{Exchange}
 use Rattle.sf_outside.specs.declared.fault.Fault.{Fault}
@@ -94,7 +94,7 @@ plain_end (turns.Broke Memory) = OutOfMemory
 -- The turns of a module were made, and their end was told. All is said of the turns in one place.
 pub record IsTurnsRun (m : Module) (turns : ℕ) (before after : Around) (entries : List Entry) (end : PlainEnd) : Type 0 where
   pub came : End
-  pub run : IsRun (record { routes = m; turns = turns }) before.seen after.seen entries came
+  pub run : IsRun (record { routes = m; turns = turns; rests = false }) before.seen after.seen entries came
   pub told : IsTold before.written after.written entries turns (plain_end came) end
 
 -- No turn was made: nothing was read, called or taken, and an end was told.

@@ -1,6 +1,5 @@
 -- Why a run ends, and that it is complete.
 use Rattle.std.proofs.Common.{◌≡◌, ◌↔◌, ◌∙◌, refl, sym, subst, ℕ, ◌+◌, ◌≤◌, List, length, false, Option, Some, None, arith, nat_le, leb-false}
-use Rattle.std.specs.Prelude.{max}
 use Rattle.sf_outside.specs.Told.{Rose}
 use Rattle.sf_outside.specs.declared.call.Answered.{Answered}
 use Rattle.request_reply.specs.declared.flaw.Reason.{Reason}
@@ -11,7 +10,7 @@ use Rattle.statefun_driver.specs.declared.end.Broken.TheVariants.{Ingress, Link,
 use Rattle.statefun_driver.specs.declared.end.End.{End}
 use Rattle.statefun_driver.specs.declared.end.End.TheVariants.{Done, TurnsSpent, RecordTooLarge, BatchTooLarge, EndpointFailed, Broke}
 use Rattle.statefun_driver.specs.Seen.{Event, Seen, Hears, HearsFail}
-use Rattle.statefun_driver.specs.Turns.{Plan, Control, Phase, Reading, Asking, Opening, Waiting, Stopped, Came, Answers, Failed, IsAsked, goes_on, take_record, size_of, longest}
+use Rattle.statefun_driver.specs.Turns.{Plan, Control, Phase, Reading, Asking, Opening, Waiting, Stopped, Came, Answers, Failed, IsAsked, goes_on, begun, take_record, size_of, longest}
 use Rattle.statefun_driver.specs.Turns.{own_part, came, with_reason, patience_at}
 use Rattle.statefun_driver.specs.Traces.{Trace, IsEnd, IsUnbroken}
 use Rattle.statefun_driver.specs.Runs.{AreCalm, IsCauseOf, IsServedBy, IsServed, IsRoomy, AreServed, IsComplete, NoneRose}
@@ -69,7 +68,7 @@ moved_caused plan before c o _ _ p (ReadNone split count offset e is) k h = stil
 moved_caused plan before c o _ _ p (ReadLarge split count offset found e large) k h = calm_on before o p _ h k.others (refl, refl)
 moved_caused plan before c o _ _ p (Took split count offset found e is) k h =
     still before p _ (rest_read_on IsUnbroken unbroken_rests plan split (count + 1) (take_record plan.routes split found c)) (calm_on before o p _ h k.others (refl, refl))
-moved_caused plan before c o _ _ p (SawMoment moment e) k h = still before p _ (rest_read IsUnbroken unbroken_rests plan 0 (record c { moment = max c.moment moment })) (calm_on before o p _ h k.others (refl, refl))
+moved_caused plan before c o _ _ p (SawMoment moment e) k h = still before p _ (rest_read IsUnbroken unbroken_rests plan 0 (begun moment c)) (calm_on before o p _ h k.others (refl, refl))
 moved_caused plan before c o _ _ p (Began batch url request e place is) k h = calm_on before o p _ h k.others (refl, refl)
 moved_caused plan before c o _ _ p (PolledNone batch call n outcome e) k h = calm_on before o p _ h k.others (refl, refl)
 moved_caused plan before c o _ _ p (FailedBy batch call n outcome why e is late) k h = still before p _ (tried_unbroken plan.routes (with_reason batch why)) (calm_on before o p _ h k.others (refl, refl))
@@ -114,7 +113,7 @@ passed_one plan c _ _ (BrokeOff by) h = tt
 passed_one plan c _ _ (ReadNone split count offset e is) h = rest_read IsPassed passed_rests plan (split + 1) c
 passed_one plan c _ _ (ReadLarge split count offset found e large) h = absurd (too_large (size_of found) longest (served_in plan.routes c (Reading split count) _ e h) large)
 passed_one plan c _ _ (Took split count offset found e is) h = rest_read_on IsPassed passed_rests plan split (count + 1) (take_record plan.routes split found c)
-passed_one plan c _ _ (SawMoment moment e) h = rest_read IsPassed passed_rests plan 0 (record c { moment = max c.moment moment })
+passed_one plan c _ _ (SawMoment moment e) h = rest_read IsPassed passed_rests plan 0 (begun moment c)
 passed_one plan c _ _ (Began batch url request e place is) h = tt
 passed_one plan c _ _ (PolledNone batch call k outcome e) h = tt
 passed_one plan c _ _ (FailedBy batch call k outcome why e is late) h =

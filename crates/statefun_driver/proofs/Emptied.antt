@@ -1,6 +1,6 @@
 -- At Done no letter is left: who has letters is in line, unless some are in flight, and none are between two batches.
 use Rattle.std.proofs.Common.{◌≡◌, ◌∙◌, refl, sym, ap, subst, ℕ, zero, suc, ◌+◌, List, [], ◌∷◌, ◌++◌, length, Bool, true, false, cond, filter, drop, slice_get, Option, Some, None, nat_lt}
-use Rattle.std.specs.Prelude.{not, ◌||◌, max, ◌^◌}
+use Rattle.std.specs.Prelude.{not, ◌||◌, ◌^◌}
 use Rattle.std.specs.Option.{option_map_or}
 use Rattle.std.specs.List.{list_any}
 use Rattle.std.specs.Cmp.{first_so}
@@ -10,7 +10,7 @@ use Rattle.typed_values.specs.declared.record.Delay.{Delay}
 use Rattle.typed_values.specs.Delays.{due_at}
 use Rattle.typed_values.specs.Sameness.{same_address}
 use Rattle.typed_values.proofs.Sameness.{same_address-Decides}
-use Rattle.batch_queue.specs.Post.{Post, waits, is_ready, with_letters, put, taken}
+use Rattle.batch_queue.specs.Post.{Post, waits, with_letters, put, taken}
 use Rattle.address_routing.specs.declared.module.Module.{Module}
 use Rattle.address_routing.specs.declared.module.Endpoint.{Endpoint}
 use Rattle.address_routing.specs.Routing.{splits_in, endpoint_of}
@@ -21,15 +21,12 @@ use Rattle.partition_core.specs.Batches.{batch_at}
 use Rattle.partition_core.specs.Work.{put_all, done, is_empty, is_idle}
 use Rattle.statefun_driver.specs.declared.end.End.TheVariants.{Done, TurnsSpent, EndpointFailed}
 use Rattle.statefun_driver.specs.Seen.{Event}
-use Rattle.statefun_driver.specs.Turns.{Plan, Control, Phase, Reading, Asking, Opening, Waiting, Stopped, Asked, first_control, at, recorded, quota, dues}
-use Rattle.statefun_driver.specs.Turns.{taken_in, is_done, finish, opening, bounds_of, opened_by, open_batch, serve_first, serve, due_recorded, send_due, read_from, take_record, read_on}
+use Rattle.statefun_driver.specs.Turns.{Plan, Control, Phase, Reading, Asking, Opening, Waiting, Stopped, Asked, Origin, first_control, at, recorded, quota, dues}
+use Rattle.statefun_driver.specs.Turns.{taken_in, ends_done, goes_on_behind, begun, finish, opening, bounds_of, opened_by, open_batch, serve_first, serve, due_recorded, send_due, read_from, take_record, read_on}
 use Rattle.statefun_driver.specs.Turns.{attempts_at, with_reason}
+use Rattle.statefun_driver.specs.Origins.{AreLined, NoneFlies}
 use Rattle.statefun_driver.proofs.Moving.{Moved, BrokeOff, ReadNone, ReadLarge, Took, SawMoment, Began, PolledNone, FailedBy, Accepts, Misses, accepted, missed}
 use Rattle.statefun_driver.proofs.Lined.{same_itself}
-
--- who waits is in line
-abbrev pub AreLined : Post → Type 0
-AreLined post = (address : Address) → is_ready post address ≡ true → list_any (same_address address) post.ready ≡ true
 
 any_left : (test : Address → Bool) (xs ys : List Address) → list_any test xs ≡ true → list_any test (xs ++ ys) ≡ true
 any_left test [] ys e = absurd (let k : false ≡ true = e in cc)
@@ -87,9 +84,6 @@ lined_with post address letters count h other = by (same_address address other) 
 
 -- ---- letters in flight
 
-abbrev NoneFlies : Post → Type 0
-NoneFlies post = (address : Address) → post.in_flight address ≡ 0
-
 abbrev OthersRest : Address → Post → Type 0
 OthersRest address post = (other : Address) → same_address address other ≡ false → post.in_flight other ≡ 0
 
@@ -115,11 +109,11 @@ flies_with post address letters count h e other = by (same_address address other
 others_with : (post : Post) (address : Address) (letters : List Letter) (count : ℕ) → OthersRest address post → OthersRest address (with_letters address letters count post)
 others_with post address letters count h other same = ap (λ t. cond t count (post.in_flight other)) same ∙ h other same
 
-put_lined : (letters : List Letter) (post : Post) → AreLined post → AreLined (put_all letters post)
+pub put_lined : (letters : List Letter) (post : Post) → AreLined post → AreLined (put_all letters post)
 put_lined [] post h = h
 put_lined (letter ∷ letters) post h = put_lined letters (put letter post) (lined_with post letter.target (post.letters letter.target ++ letter ∷ []) (post.in_flight letter.target) h)
 
-put_flies : (letters : List Letter) (post : Post) → NoneFlies post → NoneFlies (put_all letters post)
+pub put_flies : (letters : List Letter) (post : Post) → NoneFlies post → NoneFlies (put_all letters post)
 put_flies [] post h = h
 put_flies (letter ∷ letters) post h = put_flies letters (put letter post) (flies_with post letter.target (post.letters letter.target ++ letter ∷ []) (post.in_flight letter.target) (λ other same. h other) (h letter.target))
 
@@ -134,7 +128,7 @@ still_put : (letters : List Letter) (post : Post) → AreStill post → AreStill
 still_put letters post h = record { lined = put_lined letters post h.lined; none = put_flies letters post h.none }
 
 kept_finish : (plan : Plan) (c : Control) → AreStill c.work.post → AreKept (finish plan c).phase (finish plan c).work.post
-kept_finish plan c h = record { lined = h.lined; flights = by (is_done c) (nat_lt c.turn plan.turns) }
+kept_finish plan c h = record { lined = h.lined; flights = by (ends_done plan c) (goes_on_behind plan c.turn) }
   where
     by : (t u : Bool) → Flights (cond t (Stopped (Done (taken_in c.entries))) (cond u Asking (Stopped (TurnsSpent (taken_in c.entries))))) c.work.post
     by true u = h.none
@@ -205,7 +199,7 @@ kept_event plan c _ _ (ReadNone split count offset e is) h = kept_read plan (spl
 kept_event plan c _ _ (ReadLarge split count offset found e large) h = record { lined = h.lined; flights = tt }
 kept_event plan c _ _ (Took split count offset found e is) h =
     kept_read_on plan split (count + 1) (take_record plan.routes split found c) (still_put (letters_of plan.routes split found) c.work.post (record { lined = h.lined; none = flights_in c (Reading split count) e h }))
-kept_event plan c _ _ (SawMoment moment e) h = kept_read plan 0 (record c { moment = max c.moment moment }) (record { lined = h.lined; none = flights_in c Asking e h })
+kept_event plan c _ _ (SawMoment moment e) h = kept_read plan 0 (begun moment c) (record { lined = h.lined; none = flights_in c Asking e h })
 kept_event plan c _ _ (Began batch url request e place is) h = record { lined = h.lined; flights = flights_in c (Opening batch) e h }
 kept_event plan c _ _ (PolledNone batch call k outcome e) h = record { lined = h.lined; flights = flights_in c (Waiting batch call k) e h }
 kept_event plan c _ _ (FailedBy batch call k outcome why e is late) h = record {
@@ -218,11 +212,11 @@ kept_event plan c _ _ (Accepts batch call k outcome answer effects e own is) h =
 kept_event plan c _ _ (Misses batch call k outcome answer specs e own is) h =
     kept_open plan batch.address (length batch.letters) (missed plan batch call answer specs c) (still_settled c.work.post batch.address (c.work.post.letters batch.address) h.lined (flights_in c (Waiting batch call k) e h))
 
-pub kept_first : (plan : Plan) → AreKept (first_control plan).phase (first_control plan).work.post
-kept_first plan = record { lined = λ address e. absurd (let k : false ≡ true = e in cc); flights = by (nat_lt 0 plan.turns) }
+pub kept_first : (plan : Plan) (start : Origin) → AreLined start.work.post → NoneFlies start.work.post → AreKept (first_control plan start).phase start.work.post
+kept_first plan start lined none = record { lined = lined; flights = by (goes_on_behind plan start.turn) }
   where
-    by : (t : Bool) → Flights (cond t Asking (Stopped (TurnsSpent (taken_in [])))) (first_control plan).work.post
-    by true = λ address. refl
+    by : (t : Bool) → Flights (cond t Asking (Stopped (TurnsSpent (taken_in [])))) start.work.post
+    by true = none
     by false = tt
 
 -- ---- at Done
@@ -231,15 +225,21 @@ none_in_line : (line : List Address) → is_empty line ≡ true → (address : A
 none_in_line [] e address any = let k : false ≡ true = any in absurd cc
 none_in_line (x ∷ line) e address any = let k : false ≡ true = e in absurd cc
 
-pub none_left : (c : Control) (taken : ℕ) → c.phase ≡ Stopped (Done taken) → is_idle c.work ≡ true → AreKept c.phase c.work.post → (address : Address) → c.work.post.letters address ≡ []
-unfolding is_idle
-none_left c taken e idle h address = by (c.work.post.letters address) refl
+pub none_left : (post : Post) → is_empty post.ready ≡ true → AreLined post → NoneFlies post → (address : Address) → post.letters address ≡ []
+none_left post empty lined none address = by (post.letters address) refl
   where
-    rest : c.work.post.in_flight address ≡ 0
-    rest = flights_in c (Stopped (Done taken)) e h address
-
-    by : (letters : List Letter) → c.work.post.letters address ≡ letters → letters ≡ []
+    by : (letters : List Letter) → post.letters address ≡ letters → letters ≡ []
     by [] is = refl
     by (letter ∷ letters) is =
-        absurd (none_in_line c.work.post.ready (first_so (is_empty c.work.post.ready) (is_empty c.work.delays) idle) address
-        (h.lined address ((λ i. waits (is i) (rest i)))))
+        absurd (none_in_line post.ready empty address (lined address ((λ i. waits (is i) (none address i)))))
+
+pub idle_empty : (c : Control) → is_idle c.work ≡ true → is_empty c.work.post.ready ≡ true
+unfolding is_idle
+idle_empty c idle = first_so (is_empty c.work.post.ready) (is_empty c.work.delays) idle
+
+pub none_at_done : (c : Control) (taken : ℕ) → c.phase ≡ Stopped (Done taken) → is_idle c.work ≡ true → AreKept c.phase c.work.post → (address : Address) → c.work.post.letters address ≡ []
+none_at_done c taken e idle h = none_left c.work.post (idle_empty c idle) h.lined (flights_in c (Stopped (Done taken)) e h)
+
+-- at rest
+pub none_at_rest : (c : Control) → c.phase ≡ Asking → AreKept c.phase c.work.post → NoneFlies c.work.post
+none_at_rest c e h = flights_in c Asking e h

@@ -1,217 +1,90 @@
 -- Turns that came to an end are a run, with all that is said of one.
-use Rattle.std.proofs.Common.{◌≡◌, ◌∙◌, refl, sym, ap, subst, ℕ, ◌≤◌, List, [], ◌∷◌, length, Bool, true, false, cond, Option, Some, None, nat_lt, map, arith, append-nil}
-use Rattle.std.specs.Prelude.{find}
-use Rattle.std.specs.Prelude.{IfSome, IsTrue, ◌&&◌, nat_le}
-use Rattle.std.specs.List.{AllByRecursion, list_all}
-use Rattle.std.specs.Cmp.{first_so, second_so}
-use Rattle.sf_outside.specs.Splits.{Lists, Grows}
+use Rattle.std.proofs.Common.{◌≡◌, ◌∙◌, refl, sym, subst, List, [], ◌++◌, true, false, Option, Some, arith, append-nil}
+use Rattle.std.specs.Prelude.{IfSome}
+use Rattle.std.specs.List.{IsDistinct}
+use Rattle.sf_outside.specs.Splits.{Lists}
 use Rattle.sf_outside.specs.declared.call.LinkEvent.{LinkEvent}
-use Rattle.typed_values.specs.declared.name.TypeName.{TypeName}
-use Rattle.typed_values.specs.Sameness.{same_name}
-use Rattle.typed_values.specs.Pattern.{same_pattern}
 use Rattle.address_routing.specs.declared.module.Module.{Module}
-use Rattle.address_routing.specs.declared.module.Endpoint.{Endpoint}
-use Rattle.address_routing.specs.declared.module.IngressSpec.{IngressSpec}
-use Rattle.address_routing.specs.Routing.{endpoint_of, is_exact, is_wide, is_usable, is_served, is_routable, all_apart, splits_in, or_else}
 use Rattle.run_record.specs.declared.entry.Entry.{Entry}
-use Rattle.run_record.specs.Egress.{EgressIsOfAnswers}
-use Rattle.statefun_driver.specs.declared.end.Broken.TheVariants.{Ingress, Link, Memory}
-use Rattle.statefun_driver.specs.declared.end.End.{End}
-use Rattle.statefun_driver.specs.declared.end.End.TheVariants.{Done, TurnsSpent, RecordTooLarge, BatchTooLarge, EndpointFailed, Broke}
-use Rattle.statefun_driver.specs.Seen.{Event, Read, Now, Start, Poll, Fails, Seen}
-use Rattle.statefun_driver.specs.Turns.{Plan, Control, Phase, Asking, Reading, Opening, Waiting, Stopped, IsAsked, first_control, taken_in}
-use Rattle.statefun_driver.specs.Traces.{Trace, Ends, IsEnd, IsUnbroken, IsFront}
-use Rattle.statefun_driver.specs.Runs.{AreRead, Replays, HasState, IsFresh, IsBackedRun, AreTried, IsTooLarge, IsDelivered, IfDone, IsModest, AreModest, IsBoundedIn, AreBounded, IsRun}
-use Rattle.statefun_driver.specs.Laws.{EndsAreRuns}
-use Rattle.statefun_driver.proofs.Journal.{journal_is, are_read, read_one, grows_itself, grows_then, grows_one}
-use Rattle.statefun_driver.proofs.Standing.{Laws, IsFit, IsSound, Stands}
-use Rattle.statefun_driver.proofs.Ways.{sound_along, backwards, along}
-use Rattle.statefun_driver.proofs.Causes.{Caused, caused_one, cause_is, IsFine, fine_along, fine_end}
-use Rattle.statefun_driver.proofs.Delivered.{WasRead, read_event, first_read, delivered}
-use Rattle.statefun_driver.proofs.Emptied.{AreKept, kept_event, kept_first, none_left}
-use Rattle.statefun_driver.proofs.Replays.{IsReplayed, replays_event, replays_first, front_replays, replays_given}
-use Rattle.statefun_driver.proofs.Backed.{KnownBy, known_event, known_first, backed_run}
+use Rattle.run_record.specs.Machine.{State, first_state}
+use Rattle.run_record.specs.Record.{replayed}
+use Rattle.run_record.specs.Egress.{egress_of}
+use Rattle.run_record.specs.Backed.{AreBacked, calls_of, same_call}
+use Rattle.partition_core.specs.Work.{state_of}
+use Rattle.statefun_driver.specs.declared.end.Broken.TheVariants.{Memory}
+use Rattle.statefun_driver.specs.declared.end.End.TheVariants.{Broke}
+use Rattle.statefun_driver.specs.Seen.{Seen}
+use Rattle.statefun_driver.specs.Turns.{Plan, Control, no_origin, first_control}
+use Rattle.statefun_driver.specs.Traces.{Ends, IsUnbroken, IsFront}
+use Rattle.statefun_driver.specs.Runs.{Replays, HasState, IsFresh, IsBackedRun}
+use Rattle.statefun_driver.specs.Origins.{IsSoundOrigin}
+use Rattle.statefun_driver.specs.Stretches.{base_of, ReplaysBehind, AreUpTo, IsBackedBehind}
+use Rattle.statefun_driver.specs.Laws.{EndsAreRuns, TracesAreStretches}
+use Rattle.statefun_driver.proofs.Replays.{state_first, front_replays}
+use Rattle.statefun_driver.proofs.Apart.{distinct_of_front}
+use Rattle.statefun_driver.proofs.Backed.{backed_front}
+use Rattle.statefun_driver.proofs.Stretching.{first_phase, front_end, where_told}
 
--- ---- the module
-
-all_of : (endpoints : List Endpoint) → list_all is_usable endpoints ≡ true → AllByRecursion (λ (e : Endpoint). is_usable e ≡ true) endpoints
-all_of [] h = tt
-all_of (endpoint ∷ endpoints) h = (first_so (is_usable endpoint) (list_all is_usable endpoints) h, all_of endpoints (second_so (is_usable endpoint) (list_all is_usable endpoints) h))
-
-found_all : (P : Endpoint → Type 0) (test : Endpoint → Bool) (endpoints : List Endpoint) (endpoint : Endpoint) → AllByRecursion P endpoints → find test endpoints ≡ Some endpoint → P endpoint
-found_all P test [] endpoint h e = absurd cc
-found_all P test (other ∷ endpoints) endpoint h e = by (test other) e (found_all P test endpoints endpoint h.1)
-  where
-    by : (t : Bool) → cond t (Some other) (find test endpoints) ≡ Some endpoint → (find test endpoints ≡ Some endpoint → P endpoint) → P endpoint
-    by true f more = let same : other ≡ endpoint = cc in subst P same h.0
-    by false f more = more f
-
-endpoint_all : (P : Endpoint → Type 0) (m : Module) → AllByRecursion P m.endpoints → (kind : TypeName) (endpoint : Endpoint) → endpoint_of m kind ≡ Some endpoint → P endpoint
-unfolding endpoint_of
-endpoint_all P m h kind endpoint e = by (find (is_exact kind) m.endpoints) refl e
-  where
-    by : (o : Option Endpoint) → find (is_exact kind) m.endpoints ≡ o → or_else o (find (is_wide kind) m.endpoints) ≡ Some endpoint → P endpoint
-    by None f k = found_all P (is_wide kind) m.endpoints endpoint h k
-    by (Some other) f k = found_all P (is_exact kind) m.endpoints endpoint h (f ∙ k)
-
-fourth : (a b c d e f g : Bool) → (a && b && c && d && e && f && g) ≡ true → d ≡ true
-fourth a b c d e f g h =
-    second_so (a && b && c) d (first_so (a && b && c && d) e (first_so (a && b && c && d && e) f (first_so (a && b && c && d && e && f) g h)))
-
-fit_of : (m : Module) → IsTrue (is_routable m) → AreModest m.endpoints → IsFit m
-fit_of m routable modest = record {
-  usable = endpoint_all (λ (e : Endpoint). is_usable e ≡ true) m
-      (all_of m.endpoints (fourth (all_apart same_pattern (map (λ (e : Endpoint). e.pattern) m.endpoints)) (all_apart same_name (map (λ (ingress : IngressSpec). ingress.id) m.ingresses)) (all_apart same_name m.egresses)
-      (list_all is_usable m.endpoints) (list_all (is_served m) m.ingresses) (nat_lt 0 (splits_in m.ingresses)) (nat_le (splits_in m.ingresses) 32) routable));
-  modest = λ kind endpoint e. (endpoint_all IsModest m modest kind endpoint e).1;
+-- nothing was done yet
+sound_none : IsSoundOrigin no_origin
+sound_none = record {
+  held = record { owned = λ address. tt; seen = λ address. omega arith; stamps = λ address. tt; line = tt };
+  lined = λ address e. absurd (let k : false ≡ true = e in cc);
+  none = λ address. refl;
 }
 
--- ---- the first control
+told_at : {A : Type 0} (o : Option A) (P : A → Type 0) (x : A) → o ≡ Some x → IfSome o P → P x
+told_at o P x e h = subst (λ (told : Option _). IfSome told P) e h
 
-sound_first : (plan : Plan) → IsSound plan (first_control plan)
-sound_first plan = record {
-  held = record { owned = λ address. tt; seen = λ address. omega arith; line = tt };
-  stands = by (nat_lt 0 plan.turns);
+-- ---- what holds behind nothing
+
+replays_whole : (m : Module) (told : Lists) (last : Control) → ReplaysBehind m told no_origin last → Replays m told last
+replays_whole m told last h = subst (λ (st : State). replayed m told st last.entries ≡ Some (state_of last.counts (egress_of last.entries) last.work)) (sym state_first) h
+
+replays_front : (m : Module) (told : Lists) (last : Control) (entries : List Entry) → IsFront entries last.entries → ReplaysBehind m told no_origin last → HasState m told entries
+replays_front m told last entries front h =
+    let got = front_replays m told no_origin last entries front h in
+    (got.0, subst (λ (st : State). replayed m told st entries ≡ Some got.0) (sym state_first) got.1)
+
+up_to_none : (done : List LinkEvent) → IsFresh done → AreUpTo 0 done
+up_to_none done fresh call url request x = let none = fresh call url request x in omega (arith, none)
+
+backed_run : (m : Module) (told : Lists) (now : Seen) (last : Control) (entries : List Entry) → IsFront entries last.entries → IsDistinct same_call (calls_of last.entries) → IsBackedBehind m told no_origin now last → IsBackedRun m told now.exchanges entries
+backed_run m told now last entries front apart h = record {
+  backed = backed_front now.exchanges m told first_state entries front.0
+      (subst (λ (st : State). AreBacked now.exchanges m told st (entries ++ front.0)) (sym state_first) (subst (AreBacked now.exchanges m told (base_of no_origin)) front.1 h.backed));
+  distinct = distinct_of_front entries last.entries front apart;
 }
-  where
-    by : (t : Bool) → Stands plan (cond t Asking (Stopped (TurnsSpent (taken_in [])))) (first_control plan)
-    by true = tt
-    by false = tt
-
--- it is no end of its own but that no turn is to be made
-first_phase : (P : Phase → Type 0) (plan : Plan) → P Asking → ((taken : ℕ) → P (Stopped (TurnsSpent taken))) → P (first_control plan).phase
-first_phase P plan asking spent = by (nat_lt 0 plan.turns)
-  where
-    by : (t : Bool) → P (cond t Asking (Stopped (TurnsSpent (taken_in []))))
-    by true = asking
-    by false = spent (taken_in [])
-
--- ---- ends
-
-tried_end : (plan : Plan) (last : Control) (entries : List Entry) (end : End) → IsEnd last entries end → IsSound plan last → AreTried plan.routes end
-tried_end plan last entries (EndpointFailed address reasons) e s = subst (λ (x : Phase). Stands plan x last) e.0 s.stands
-tried_end plan last entries (Done taken) e s = tt
-tried_end plan last entries (TurnsSpent taken) e s = tt
-tried_end plan last entries (RecordTooLarge split offset size) e s = tt
-tried_end plan last entries (BatchTooLarge address size limit) e s = tt
-tried_end plan last entries (Broke by) e s = tt
-
-large_end : (plan : Plan) (last : Control) (entries : List Entry) (end : End) → IsEnd last entries end → IsSound plan last → IsTooLarge plan.routes last end
-large_end plan last entries (EndpointFailed address reasons) e s = tt
-large_end plan last entries (Done taken) e s = tt
-large_end plan last entries (TurnsSpent taken) e s = tt
-large_end plan last entries (RecordTooLarge split offset size) e s = subst (λ (x : Phase). Stands plan x last) e.0 s.stands
-large_end plan last entries (BatchTooLarge address size limit) e s = subst (λ (x : Phase). Stands plan x last) e.0 s.stands
-large_end plan last entries (Broke by) e s = tt
-
-front_end : (last : Control) (entries : List Entry) (end : End) → IsEnd last entries end → IsFront entries last.entries
-front_end last entries (Broke Memory) e = e.1
-front_end last entries (Broke Ingress) e = ([], sym e.1 ∙ sym (append-nil entries))
-front_end last entries (Broke Link) e = ([], sym e.1 ∙ sym (append-nil entries))
-front_end last entries (Done taken) e = ([], sym e.1 ∙ sym (append-nil entries))
-front_end last entries (TurnsSpent taken) e = ([], sym e.1 ∙ sym (append-nil entries))
-front_end last entries (RecordTooLarge split offset size) e = ([], sym e.1 ∙ sym (append-nil entries))
-front_end last entries (BatchTooLarge address size limit) e = ([], sym e.1 ∙ sym (append-nil entries))
-front_end last entries (EndpointFailed address reasons) e = ([], sym e.1 ∙ sym (append-nil entries))
-
-where_told : {A : Type 0} (o : Option A) (P : A → Type 0) → ((x : A) → o ≡ Some x → P x) → IfSome o P
-where_told None P h = tt
-where_told (Some x) P h = h x refl
-
--- ---- requests
-
-bounded_one : (laws : Laws) (plan : Plan) (c : Control) (phase : Phase) (event : Event) → Stands plan phase c → IsAsked plan.routes phase c event → IsBoundedIn plan.routes phase event
-bounded_one laws plan c Asking event s asked = tt
-bounded_one laws plan c (Reading split count) event s asked = tt
-bounded_one laws plan c (Waiting batch call polls) event s asked = tt
-bounded_one laws plan c (Stopped end) event s asked = tt
-bounded_one laws plan c (Opening batch) (Start call url request) s asked = subst (λ (o : Option Endpoint). IfSome o (λ (e : Endpoint). length request ≤ e.max_bytes)) (sym s.route) small
-  where
-    small : length request ≤ s.endpoint.max_bytes
-    small = subst (λ n. n ≤ s.endpoint.max_bytes) (sym (ap length asked.2 ∙ laws.size batch.address (c.work.cells batch.address) c.moment batch.letters)) s.small
-bounded_one laws plan c (Opening batch) (Read split offset found) s asked = absurd asked
-bounded_one laws plan c (Opening batch) (Now moment) s asked = absurd asked
-bounded_one laws plan c (Opening batch) (Poll outcome) s asked = absurd asked
-bounded_one laws plan c (Opening batch) (Fails by) s asked = where_told (endpoint_of plan.routes batch.address.kind) (λ (e : Endpoint). Unit {0}) (λ e is. tt)
-
-bounded : (laws : Laws) (plan : Plan) → IsFit plan.routes → (c : Control) (o : Seen) (events : List Event) (d : Control) (q : Seen) → Trace plan c o events d q → IsSound plan c → AreBounded plan c events
-bounded laws plan fit c o events d q t s =
-    backwards laws plan fit d q (λ c o events. AreBounded plan c events) tt (λ c o event p events s asked m heard more. (bounded_one laws plan c c.phase event s.stands asked, more)) c o events t s
-
--- ---- all of it
-
-module _ (laws : Laws) (egress : EgressIsOfAnswers) (plan : Plan) (fit : IsFit plan.routes) (o q : Seen) (events : List Event) (last : Control) (t : Trace plan (first_control plan) o events last q) where
-  abbrev first : Control
-  first = first_control plan
-
-  sound : IsSound plan last
-  sound = sound_along laws plan fit first o events last q t (sound_first plan)
-
-  caused : Caused o q last.phase
-  caused =
-      along laws plan fit q (λ c p. Caused o p c.phase) (λ c p event x r s asked m heard grows h. caused_one plan o c p event x r asked m heard h) first o events last t (sound_first plan)
-      (first_phase (Caused o o) plan (refl, refl) (λ taken. (refl, refl)))
-
-  replay : (told : Lists) → q.lists ≡ Some told → IsReplayed plan.routes told last.counts last.work last.entries
-  replay told e =
-      along laws plan fit q (λ c p. IsReplayed plan.routes told c.counts c.work c.entries)
-      (λ c p event x r s asked m heard grows h. replays_event laws plan told c event x s (read_one event p r told heard (subst (Grows r.lists) e grows)) m h)
-      first o events last t (sound_first plan) (replays_first plan.routes told)
-
-  known : (told : Lists) → q.lists ≡ Some told → (done : List LinkEvent) → o.journal ≡ Some done → IsFresh done → KnownBy laws plan told last q
-  known told e done journal fresh =
-      along laws plan fit q (KnownBy laws plan told)
-      (λ c p event x r s asked m heard grows h. known_event laws plan told c p event x r s (read_one event p r told heard (subst (Grows r.lists) e grows)) m heard h)
-      first o events last t (sound_first plan) (done, known_first plan told o done journal fresh (replays_first plan.routes told))
-
-  -- all that stood in the lists at entry was read
-  read : (lists : Lists) → o.lists ≡ Some lists → WasRead plan lists last
-  read lists e =
-      (along laws plan fit q (λ c p. Grows (Some lists) p.lists × WasRead plan lists c)
-      (λ c p event x r s asked m heard grows h. (grows_then (Some lists) p.lists r.lists h.0 (grows_one event p r heard), read_event plan lists c p event x r h.0 m heard h.1))
-      first o events last t (sound_first plan) (subst (Grows (Some lists)) (sym e) (grows_itself (Some lists)), first_read plan lists)).1
-
-  kept : AreKept last.phase last.work.post
-  kept = along laws plan fit q (λ c p. AreKept c.phase c.work.post) (λ c p event x r s asked m heard grows h. kept_event plan c event x m h) first o events last t (sound_first plan) (kept_first plan)
-
-  done_end : (entries : List Entry) (end : End) → IsEnd last entries end → IfDone plan.routes o.lists last end
-  done_end entries (Done taken) e =
-      let stands : Stands plan (Stopped (Done taken)) last = subst (λ (x : Phase). Stands plan x last) e.0 sound.stands in
-      where_told o.lists (λ (lists : Lists). IsDelivered plan.routes lists last) (λ lists is. delivered plan lists last taken e.0 stands.0 stands.1 (none_left last taken e.0 stands.0 kept) (read lists is))
-  done_end entries (TurnsSpent taken) e = tt
-  done_end entries (RecordTooLarge split offset size) e = tt
-  done_end entries (BatchTooLarge address size limit) e = tt
-  done_end entries (EndpointFailed address reasons) e = tt
-  done_end entries (Broke by) e = tt
-
-  pub run_of : (entries : List Entry) (end : End) → IsEnd last entries end → IsRun plan o q entries end
-  run_of entries end is_end =
-      let front = front_end last entries end is_end in
-      let cause = cause_is o q last entries end is_end caused in
-      record {
-        events = events;
-        last = last;
-        trace = t;
-        is_end = is_end;
-        journal = journal_is plan first o events last q t;
-        reads = where_told q.lists (λ (told : Lists). AreRead told events) (λ told e. are_read plan first o events last q told e t);
-        replays = where_told q.lists (λ (told : Lists). Replays plan.routes told last × HasState plan.routes told entries)
-            (λ told e. (replays_given egress plan.routes told last (replay told e), front_replays plan.routes told last entries front (replay told e)));
-        backed = where_told q.lists (λ (told : Lists). IfSome o.journal (λ done. IsFresh done → IsBackedRun plan.routes told q.exchanges entries))
-            (λ told e. where_told o.journal (λ (done : List LinkEvent). IsFresh done → IsBackedRun plan.routes told q.exchanges entries)
-            (λ done j fresh. let k = known told e done j fresh in backed_run plan.routes told last q k.0 entries front k.1));
-        bounded = bounded laws plan fit first o events last q t (sound_first plan);
-        cause = cause;
-        tried = tried_end plan last entries end is_end sound;
-        large = large_end plan last entries end is_end sound;
-        done = done_end entries end is_end;
-        complete = λ none served. fine_end o q last entries end (fine_along laws plan fit first o events last q t (sound_first plan) served (first_phase IsFine plan tt (λ taken. tt))) is_end cause none;
-      }
 
 -- memory may run out before anything is done
-pub at_once : (plan : Plan) (o : Seen) (entries : List Entry) → entries ≡ [] → Ends plan (first_control plan) o entries (Broke Memory) o
-at_once plan o entries none = record { last = first_control plan; leads = ([], (refl, refl)); is_end = (first_phase IsUnbroken plan tt (λ taken. tt), ([], sym (append-nil entries ∙ none))) }
+pub at_once : (plan : Plan) (o : Seen) (entries : List Entry) → entries ≡ [] → Ends plan (first_control plan no_origin) o entries (Broke Memory) o
+at_once plan o entries none = record { last = first_control plan no_origin; leads = ([], (refl, refl)); is_end = (first_phase IsUnbroken plan no_origin tt (λ taken. tt), ([], sym (append-nil entries ∙ none))) }
 
-pub ends_are_runs : Laws → EgressIsOfAnswers → EndsAreRuns
-ends_are_runs laws egress plan before now entries end routable modest ends =
-    run_of laws egress plan (fit_of plan.routes routable modest) before now (ends.leads).0 ends.last (ends.leads).1 entries end ends.is_end
+pub ends_are_runs : TracesAreStretches → EndsAreRuns
+ends_are_runs stretches plan before now entries end routable modest ends =
+    let last = ends.last in
+    let st = stretches plan no_origin before now (ends.leads).0 last routable modest sound_none (ends.leads).1 in
+    let front = front_end last entries end ends.is_end in
+    let truly = st.ends entries end ends.is_end in
+    record {
+      events = (ends.leads).0;
+      last = last;
+      trace = (ends.leads).1;
+      is_end = ends.is_end;
+      journal = st.journal;
+      reads = st.reads;
+      replays = where_told now.lists (λ (told : Lists). Replays plan.routes told last × HasState plan.routes told entries)
+          (λ told e. (let k = told_at now.lists (λ (told : Lists). ReplaysBehind plan.routes told no_origin last) told e st.replays in
+          (replays_whole plan.routes told last k, replays_front plan.routes told last entries front k)));
+      backed = where_told now.lists (λ (told : Lists). IfSome before.journal (λ done. IsFresh done → IsBackedRun plan.routes told now.exchanges entries))
+          (λ told e. where_told before.journal (λ (done : List LinkEvent). IsFresh done → IsBackedRun plan.routes told now.exchanges entries)
+          (λ done j fresh.
+          let k = told_at now.lists (λ (told : Lists). IfSome before.journal (λ done. AreUpTo 0 done → IsBackedBehind plan.routes told no_origin now last)) told e st.backed in
+          backed_run plan.routes told now last entries front st.distinct (told_at before.journal (λ (done : List LinkEvent). AreUpTo 0 done → IsBackedBehind plan.routes told no_origin now last) done j k (up_to_none done fresh))));
+      bounded = st.bounded;
+      cause = truly.cause;
+      tried = truly.tried;
+      large = truly.large;
+      done = truly.done;
+      complete = truly.complete;
+    }

@@ -6,6 +6,7 @@ mod Dues
 mod Rows
 mod Calls
 mod Recorded
+mod Parting
 mod Turning
 mod Batches
 mod Trying
@@ -17,6 +18,7 @@ mod Resting
 mod Moving
 mod Lined
 mod Opening
+mod Stamped
 mod Journal
 mod Standing
 mod Ways
@@ -24,5 +26,10 @@ mod Causes
 mod Delivered
 mod Emptied
 mod Replays
+mod Apart
 mod Backed
+mod Numbered
+mod Stretching
 mod Ended
+pub mod Restored
+pub mod Driving

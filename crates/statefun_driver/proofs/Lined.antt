@@ -10,9 +10,7 @@ use Rattle.batch_queue.specs.Post.{Post, waits, is_ready, with_letters, put}
 use Rattle.run_record.specs.declared.entry.Step.{Step}
 use Rattle.run_record.specs.declared.entry.Step.TheVariants as step
 use Rattle.partition_core.specs.Work.{settled, put_all}
-
-abbrev pub AreReady : Post → Type 0
-AreReady post = AllByRecursion (λ (address : Address). is_ready post address ≡ true) post.ready
+use Rattle.partition_core.specs.Laws.{AreReady}
 
 pub same_itself : (address : Address) → same_address address address ≡ true
 same_itself address = (same_address-Decides address address).1 refl

@@ -1,6 +1,6 @@
 -- What one event does, case by case: each law over runs goes over these cases.
 use Rattle.std.proofs.Common.{◌≡◌, ℕ, ◌+◌, ◌<◌, ◌≤◌, refl, sym, ◌∙◌, ap, subst, List, length, Bool, true, false, cond, Option, Some, None, lt-ltb, ltb-false}
-use Rattle.std.specs.Prelude.{nat_lt, nat_le, max}
+use Rattle.std.specs.Prelude.{nat_lt, nat_le}
 use Rattle.sf_outside.specs.declared.ingress.IngressRecord.{IngressRecord}
 use Rattle.sf_outside.specs.declared.call.Call.{Call}
 use Rattle.sf_outside.specs.declared.call.Outcome.{Outcome}
@@ -22,7 +22,7 @@ use Rattle.statefun_driver.specs.declared.end.Broken.{Broken}
 use Rattle.statefun_driver.specs.declared.end.End.TheVariants.{RecordTooLarge, Broke}
 use Rattle.statefun_driver.specs.Seen.{Event, Read, Now, Start, Poll, Fails}
 use Rattle.statefun_driver.specs.Turns.{Plan, Control, Phase, Reading, Asking, Opening, Waiting, Stopped, Asked, Failed, IsAsked}
-use Rattle.statefun_driver.specs.Turns.{at, goes_on, read_from, read_on, take_record, size_of, longest, recorded, own_now, finish, open_batch, call_of, own_part, came_of, came}
+use Rattle.statefun_driver.specs.Turns.{at, goes_on, begun, read_from, read_on, take_record, size_of, longest, recorded, own_now, finish, open_batch, call_of, own_part, came_of, came}
 use Rattle.statefun_driver.specs.Turns.{tried_phase, with_reason, reply_to, settled, fated, wait, polled, patience_at}
 
 -- behind a record that was taken, an accepted result, and an answer that misses values
@@ -46,7 +46,7 @@ pub data Moved (plan : Plan) (c : Control) : Event → Control → Type 0 where
   ReadNone : (split count offset : ℕ) → c.phase ≡ Reading split count → offset ≡ c.counts split → Moved plan c (Read split offset None) (read_from plan (split + 1) c)
   ReadLarge : (split count offset : ℕ) (found : IngressRecord) → c.phase ≡ Reading split count → nat_le (size_of found) longest ≡ false → Moved plan c (Read split offset (Some found)) (at (Stopped (RecordTooLarge split (c.counts split) (size_of found))) c)
   Took : (split count offset : ℕ) (found : IngressRecord) → c.phase ≡ Reading split count → offset ≡ c.counts split → Moved plan c (Read split offset (Some found)) (behind_take plan split count found c)
-  SawMoment : (moment : ℕ) → c.phase ≡ Asking → Moved plan c (Now moment) (read_from plan 0 (record c { moment = max c.moment moment }))
+  SawMoment : (moment : ℕ) → c.phase ≡ Asking → Moved plan c (Now moment) (read_from plan 0 (begun moment c))
   Began : (batch : Asked) (url request : List ℕ) → c.phase ≡ Opening batch → Some url ≡ url_of plan.routes batch.address.kind → request ≡ request_bytes batch.address (c.work.cells batch.address) c.moment batch.letters
       → Moved plan c (Start (call_of c) url request) (at (Waiting batch (call_of c) 0) (record c { calls = c.calls + 1 }))
   PolledNone : (batch : Asked) (call : Call) (k : ℕ) (outcome : Option Outcome) → c.phase ≡ Waiting batch call k → Moved plan c (Poll outcome) (at (Waiting batch call (k + 1)) c)

@@ -1,8 +1,8 @@
 -- What a step leaves is what is recorded of it.
 use mathlib.Core.Path.{fun_ext}
-use Rattle.std.proofs.Common.{◌≡◌, ◌∙◌, sym, ap, refl, ℕ, zero, suc, ◌+◌, ◌<◌, nat_eq, List, [], ◌∷◌, ◌++◌, Bool, true, false, true≢false, cond, length, get_or, set, Some, None, eqb-true, eq-eqb, arith}
+use Rattle.std.proofs.Common.{◌≡◌, ◌∙◌, sym, ap, refl, ℕ, zero, suc, ◌+◌, ◌<◌, ◌≤◌, nat_eq, take, List, [], ◌∷◌, ◌++◌, Bool, true, false, true≢false, cond, length, get_or, set, Some, None, eqb-true, eq-eqb, arith}
 use Rattle.std.specs.Option.{option_map_or}
-use Rattle.std.specs.Prelude.{vec_len}
+use Rattle.std.specs.Prelude.{vec_len, replicate}
 use Rattle.std.proofs.lemmas.List.{get_or_read, get_or-set_same, get_or-set_other}
 use Rattle.typed_values.specs.declared.letter.Sender.TheVariants.{Split}
 use Rattle.typed_values.specs.declared.record.Delay.{Delay}
@@ -17,6 +17,20 @@ use Rattle.partition_core.specs.Work.{Work, own_in, done, with_posted, sent}
 use Rattle.statefun_driver.specs.declared.progress.Progress.{Progress}
 use Rattle.statefun_driver.specs.Turns.{Control, recorded, entry_of, take_record, due_recorded, send_due}
 use Rattle.statefun_driver.specs.Work.{here}
+
+-- ---- counts that are not there are 0
+
+zeros : (k i : ℕ) → ◌≡◌ {A = ℕ} (get_or (replicate k 0) i 0) 0
+zeros zero i = refl
+zeros (suc k) zero = refl
+zeros (suc k) (suc i) = zeros k i
+
+pub padded : (xs : List ℕ) (n k i : ℕ) → length xs ≤ n → ◌≡◌ {A = ℕ} (get_or (take n xs ++ replicate k 0) i 0) (get_or xs i 0)
+padded [] zero k i h = zeros k i
+padded [] (suc n) k i h = zeros k i
+padded (x ∷ xs) zero k i h = absurd (omega (arith, h))
+padded (x ∷ xs) (suc n) k zero h = refl
+padded (x ∷ xs) (suc n) k (suc i) h = padded xs n k i (omega (arith, h))
 
 -- ---- a record is taken
 

@@ -10,7 +10,7 @@ use Rattle.partition_core.specs.declared.bounds.Bounds.{Bounds}
 use Rattle.partition_core.specs.Batches.{batch_at}
 use Rattle.statefun_driver.specs.declared.end.End.TheVariants.{Done, TurnsSpent, BatchTooLarge, EndpointFailed}
 use Rattle.statefun_driver.specs.Turns.{Plan, Control, Phase, Reading, Asking, Opening, Stopped, Asked, at, quota, dues}
-use Rattle.statefun_driver.specs.Turns.{taken_in, is_done, finish, opening, bounds_of, opened_by, open_batch, serve_first, serve, send_due, read_from, read_on, attempts_at, tried_phase}
+use Rattle.statefun_driver.specs.Turns.{taken_in, ends_done, goes_on_behind, finish, opening, bounds_of, opened_by, open_batch, serve_first, serve, send_due, read_from, read_on, attempts_at, tried_phase}
 use Rattle.statefun_driver.specs.Traces.{IsUnbroken}
 
 pub record Rests (F : Phase → Type 0) : Type 0 where
@@ -33,7 +33,7 @@ tried_unbroken m batch = by (nat_lt (length batch.reasons) (attempts_at m batch.
 
 module _ (F : Phase → Type 0) (rests : Rests F) (plan : Plan) where
   pub rest_finish : (c : Control) → F (finish plan c).phase
-  rest_finish c = by (is_done c) (nat_lt c.turn plan.turns)
+  rest_finish c = by (ends_done plan c) (goes_on_behind plan c.turn)
     where
       by : (t u : Bool) → F (cond t (Stopped (Done (taken_in c.entries))) (cond u Asking (Stopped (TurnsSpent (taken_in c.entries)))))
       by true u = rests.done (taken_in c.entries)

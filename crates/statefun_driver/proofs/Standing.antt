@@ -37,15 +37,17 @@ use Rattle.run_record.proofs.Steps.{made-is, take-made}
 use Rattle.partition_core.specs.declared.bounds.Bounds.{Bounds}
 use Rattle.partition_core.specs.Batches.{batch_at, keeps, opened_at, sender_of}
 use Rattle.partition_core.specs.Work.{Work, own_of, mail_in, state_of, settled, set_for, done, is_idle}
-use Rattle.partition_core.specs.Laws.{IsOwned, IsInTurn, IsTheMachine, AnswersAreAsked, DueIsMade, flying, sender_of_due}
+use Rattle.partition_core.specs.Laws.{IsInTurn, IsTheMachine, AnswersAreAsked, DueIsMade, flying, sender_of_due}
 use Rattle.statefun_driver.specs.declared.end.End.TheVariants.{Done, TurnsSpent, EndpointFailed}
 use Rattle.statefun_driver.specs.Seen.{Event}
 use Rattle.statefun_driver.specs.Turns.{Plan, Control, Phase, Reading, Asking, Opening, Waiting, Stopped, Asked, at, recorded, own_now, quota, longest, size_of, dues}
-use Rattle.statefun_driver.specs.Turns.{is_done, finish, opening, bounds_of, opened_by, open_batch, serve_first, serve, due_recorded, send_due, read_from, take_record, read_on}
+use Rattle.statefun_driver.specs.Turns.{taken_in, is_done, ends_done, goes_on_behind, begun, finish, opening, bounds_of, opened_by, open_batch, serve_first, serve, due_recorded, send_due, read_from, take_record, read_on}
 use Rattle.statefun_driver.specs.Turns.{attempts_at, patience_at, tried_phase, with_reason, reply_to}
 use Rattle.statefun_driver.specs.Runs.{most_bytes, IsTooLarge}
 use Rattle.statefun_driver.proofs.Moving.{Moved, BrokeOff, ReadNone, ReadLarge, Took, SawMoment, Began, PolledNone, FailedBy, Accepts, Misses, accepted, missed, Judges, IsPatient}
-use Rattle.statefun_driver.proofs.Lined.{AreReady, same_itself, first_all, line_with, line_put_all, line_settled}
+use Rattle.statefun_driver.specs.Origins.{IsHeld}
+use Rattle.statefun_driver.proofs.Stamped.{AreTimely, stamped_for, stamped_later, timely_changes, timely_registers}
+use Rattle.statefun_driver.proofs.Lined.{same_itself, first_all, line_with, line_put_all, line_settled}
 use Rattle.statefun_driver.proofs.Opening.{fitting_front, fitting_keeps, keeps_count, keeps_bytes, fitting_none}
 
 -- ---- what is known of lower crates and of the module
@@ -61,12 +63,6 @@ pub record IsFit (m : Module) : Type 0 where
   pub modest : (kind : TypeName) (endpoint : Endpoint) → endpoint_of m kind ≡ Some endpoint → endpoint.max_bytes ≤ 8388608
 
 -- ---- what stands
-
--- in every phase
-pub record IsHeld (work : Work) (moment : ℕ) : Type 0 where
-  pub owned : IsOwned work
-  pub seen : (address : Address) → work.seen address ≤ moment
-  pub line : AreReady work.post
 
 -- a batch that is asked for is in flight, within its endpoint's limits, and an attempt is left
 pub record IsFlying (m : Module) (batch : Asked) (work : Work) (moment : ℕ) : Type 0 where
@@ -99,6 +95,7 @@ pub record Makes (m : Module) (found : Option IngressRecord) (s : Step) (act : A
   pub does : (given : List EgressRecord) → made m found (state_of c.counts given c.work) s ≡ Some act
   pub turn : IsInTurn c.work s
   pub moment : act.seen ≤ c.moment
+  pub timely : AreTimely c.moment act.on_cells
 
 seen_for : (actor : Sender) (value moment : ℕ) (seen : Address → ℕ) → value ≤ moment → ((address : Address) → seen address ≤ moment) → (address : Address) → set_for actor value seen address ≤ moment
 seen_for (Split split) value moment seen h k address = k address
@@ -113,6 +110,7 @@ unfolding recorded done
 held_recorded laws m found s act c makes h = record {
   owned = (laws.machine m found c.counts [] c.work s act (makes.does []) h.owned makes.turn).1;
   seen = seen_for (actor_of s) act.seen c.moment c.work.seen makes.moment h.seen;
+  stamps = stamped_for (actor_of s) act.on_cells c.moment c.work.cells makes.timely h.stamps;
   line = line_put_all act.letters (settled s c.work.post) (line_settled s c.work.post h.line);
 }
 
@@ -122,6 +120,7 @@ makes_take m split found c inside = record {
   does = λ given. take-made m (state_of c.counts given c.work) split found inside;
   turn = tt;
   moment = omega arith;
+  timely = tt;
 }
 
 pub makes_due : (laws : Laws) (m : Module) (due : Delay × List Delay) (c : Control) → due_at c.moment c.work.delays ≡ Some due → IsHeld c.work c.moment
@@ -132,6 +131,7 @@ makes_due laws m due c e h = record {
       (record { may = refl; does = laws.due m None c.work c.moment due e });
   turn = ap (option_map sender_of_due) e;
   moment = h.seen due.0.sender;
+  timely = tt;
 }
 
 -- ---- answers
@@ -169,6 +169,7 @@ makes_batch laws plan batch call c answer effects f h is =
           (record { may = (answer_asked laws plan.routes c batch call answer f h).0; does = ap (λ judged. batch_act reply judged own) is });
       turn = ap (map sender_of) f.letters;
       moment = omega arith;
+      timely = (omega arith, timely_changes c.moment effects.mutations);
     }
 
 pub makes_register : (laws : Laws) (plan : Plan) (batch : Asked) (call : Call) (c : Control) (answer : List ℕ) (specs : List CellSpec) → IsFlying plan.routes batch c.work c.moment → IsHeld c.work c.moment → Judges plan batch c answer (Declare specs)
@@ -182,17 +183,26 @@ makes_register laws plan batch call c answer specs f h is =
           (record { may = (answer_asked laws plan.routes c batch call answer f h).0; does = ap (λ judged. register_act reply judged own) is });
       turn = tt;
       moment = omega arith;
+      timely = timely_registers c.moment specs;
     }
 
 -- ---- the end of a turn
 
-finish_stands : (plan : Plan) (c d : Control) (taken : ℕ) (t u : Bool) → is_done c ≡ t → d.work ≡ c.work → d.left ≡ false → Stands plan (cond t (Stopped (Done taken)) (cond u Asking (Stopped (TurnsSpent taken)))) d
-finish_stands plan c d taken true u e same none = (ap is_idle same ∙ second_so (not c.left) (is_idle c.work) e, none)
-finish_stands plan c d taken false true e same none = tt
-finish_stands plan c d taken false false e same none = tt
+not_so : (b : Bool) → not b ≡ true → b ≡ false
+not_so true e = absurd cc
+not_so false e = refl
+
+-- what is done has no more to read and nothing to do
+pub done_parts : (c : Control) → is_done c ≡ true → (is_idle c.work ≡ true) × (c.left ≡ false)
+done_parts c e = (second_so (not c.left) (is_idle c.work) e, not_so c.left (first_so (not c.left) (is_idle c.work) e))
+
+finish_stands : (plan : Plan) (c : Control) (taken : ℕ) (t u : Bool) → ends_done plan c ≡ t → Stands plan (cond t (Stopped (Done taken)) (cond u Asking (Stopped (TurnsSpent taken)))) c
+finish_stands plan c taken true u e = done_parts c (second_so (not plan.rests) (is_done c) e)
+finish_stands plan c taken false true e = tt
+finish_stands plan c taken false false e = tt
 
 pub sound_finish : (plan : Plan) (c : Control) → IsHeld c.work c.moment → IsSound plan (finish plan c)
-sound_finish plan c h = record { held = h; stands = finish_stands plan c (finish plan c) _ (is_done c) (nat_lt c.turn plan.turns) refl refl refl }
+sound_finish plan c h = record { held = h; stands = finish_stands plan (finish plan c) (taken_in c.entries) (ends_done plan c) (goes_on_behind plan c.turn) refl }
 
 -- ---- a batch that is opened
 
@@ -219,7 +229,7 @@ module _ (plan : Plan) (fit : IsFit plan.routes) (address : Address) (most : ℕ
   letters = c.work.post.letters address
 
   open_held : (batch : List Letter) → IsHeld (opened_at address batch c.work) c.moment
-  open_held batch = record { owned = λ other. owned_by other (same_address address other) refl; seen = h.seen; line = line_with c.work.post address letters (length batch) h.line }
+  open_held batch = record { owned = λ other. owned_by other (same_address address other) refl; seen = h.seen; stamps = h.stamps; line = line_with c.work.post address letters (length batch) h.line }
     where
       owned_by : (other : Address) (t : Bool) → same_address address other ≡ t → AllByRecursion (λ (letter : Letter). letter.target ≡ other) (cond t letters (c.work.post.letters other))
       owned_by other true e = subst (λ (a : Address). AllByRecursion (λ (letter : Letter). letter.target ≡ a) letters) ((same_address-Decides address other).0 e) (h.owned address)
@@ -365,7 +375,12 @@ pub stands_in : (plan : Plan) (c : Control) (phase : Phase) → c.phase ≡ phas
 stands_in plan c phase e h = subst (λ (x : Phase). Stands plan x c) e h
 
 pub later : (moment now : ℕ) (work : Work) → IsHeld work moment → IsHeld work (max moment now)
-later moment now work h = record { owned = h.owned; seen = λ address. (let k = h.seen address in omega (arith, k)); line = h.line }
+later moment now work h = record {
+  owned = h.owned;
+  seen = λ address. (let k = h.seen address in omega (arith, k));
+  stamps = λ address. stamped_later moment (max moment now) (work.cells address) (omega arith) (h.stamps address);
+  line = h.line;
+}
 
 pub sound_one : (laws : Laws) (plan : Plan) → IsFit plan.routes → (c : Control) (event : Event) (d : Control) → Moved plan c event d → IsSound plan c → IsSound plan d
 sound_one laws plan fit c _ _ (BrokeOff by) s = record { held = s.held; stands = tt }
@@ -375,7 +390,7 @@ sound_one laws plan fit c _ _ (Took split count offset found e is) s =
     let inside : split < splits_in plan.routes.ingresses = stands_in plan c (Reading split count) e s.stands in
     sound_read_on laws plan fit split (count + 1) (take_record plan.routes split found c) inside
     (held_recorded laws plan.routes (Some found) (step.Take split) (took plan.routes split (own_now c (Split split)) found) c (makes_take plan.routes split found c inside) s.held)
-sound_one laws plan fit c _ _ (SawMoment moment e) s = sound_read laws plan fit 0 (record c { moment = max c.moment moment }) (later c.moment moment c.work s.held)
+sound_one laws plan fit c _ _ (SawMoment moment e) s = sound_read laws plan fit 0 (begun moment c) (later c.moment moment c.work s.held)
 sound_one laws plan fit c _ _ (Began batch url request e place is) s = record { held = s.held; stands = stands_in plan c (Opening batch) e s.stands }
 sound_one laws plan fit c _ _ (PolledNone batch call k outcome e) s = record { held = s.held; stands = stands_in plan c (Waiting batch call k) e s.stands }
 sound_one laws plan fit c _ _ (FailedBy batch call k outcome why e is late) s = sound_tried plan batch why c s.held (stands_in plan c (Waiting batch call k) e s.stands)

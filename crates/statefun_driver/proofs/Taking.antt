@@ -1,5 +1,5 @@
 -- A valid answer fits the cells that it is judged by, and one that misses values misses new ones.
-use Rattle.std.proofs.Common.{◌≡◌, ℕ, ◌+◌, ◌<◌, ◌≤◌, refl, subst, List, [], ◌∷◌, ◌++◌, length, map, cond, Bool, true, false, Option, Some, None, is_some, Result, Ok, Err, length-append, arith}
+use Rattle.std.proofs.Common.{◌≡◌, ◌∙◌, ℕ, ◌+◌, ◌<◌, ◌≤◌, refl, sym, ap, subst, List, [], ◌∷◌, ◌++◌, length, map, cond, Bool, true, false, Option, Some, None, is_some, Result, Ok, Err, length-append, arith}
 use Rattle.std.specs.Prelude.{nat_le, nat_lt}
 use Rattle.std.proofs.lemmas.Bool.{leb-false}
 use Rattle.typed_values.specs.declared.address.Address.{Address}
@@ -26,12 +26,14 @@ use Rattle.invocation.specs.declared.effects.Effects.{Effects}
 use Rattle.invocation.specs.declared.judging.Judged.{Judged}
 use Rattle.invocation.specs.declared.judging.Judged.TheVariants.{Accept, Register as Declare, Flaw}
 use Rattle.invocation.specs.Judging.{setting_of, done_by, judgement}
+use Rattle.invocation.specs.Effects.{effects_of}
 use Rattle.invocation.specs.Laws.{TakesAll, AreNew, Fits}
+use Rattle.run_record.specs.Egress.{records_spelled}
 use Rattle.invocation.proofs.Accepting.{judgement-fits}
 use Rattle.statefun_driver.specs.declared.settled.Valid.{Valid}
 use Rattle.statefun_driver.specs.declared.settled.Valid.TheVariants.{Accepted, Missed}
 use Rattle.statefun_driver.specs.Turns.{Control, came, came_of}
-use Rattle.statefun_driver.specs.Work.{IsTaken, valid_as}
+use Rattle.statefun_driver.specs.Work.{IsSpelled, IsTaken, valid_as}
 
 -- ---- an answer that misses values misses a new one
 
@@ -88,6 +90,43 @@ is_taken m c address (Some (tells.Lost note)) (Missed answer specs) e = absurd c
 is_taken m c address (Some (tells.Answer bytes)) valid e =
     taken_by (c.work.cells address) bytes valid (judgement m (c.work.cells address) address c.moment bytes) e
     (judgement-fits m (c.work.cells address) address c.moment bytes) (new_judged m (c.work.cells address) address c.moment bytes)
+
+-- ---- a valid answer gives what it spells
+
+abbrev SpelledAs : Address → Result FromFunction WireFault → Judged → Type 0
+SpelledAs address read (Accept effects) = records_spelled address read ≡ effects.egress
+SpelledAs address read (Declare specs) = records_spelled address read ≡ []
+SpelledAs address read (Flaw flaw) = Unit {0}
+
+judged_spelled : (m : Module) (cells : List Cell) (address : Address) (moment : ℕ) (answer : List ℕ) → SpelledAs address (from_value answer) (judgement m cells address moment answer)
+unfolding judgement verdict read_verdict effects_of
+judged_spelled m cells address moment answer = by (nat_lt 4194304 (length answer)) (from_value answer)
+  where
+    by_flaw : (o : Option FlawOf) (read : FromFunction) → SpelledAs address (Ok read) (done_by address moment (unless o (asked (setting_of m cells) read)))
+    by_flaw None (answers.Result response) = refl
+    by_flaw None (answers.Incomplete context) = refl
+    by_flaw (Some flaw) read = tt
+
+    by : (long : Bool) (read : Result FromFunction WireFault) → SpelledAs address read (done_by address moment (cond long (judgements.Flaw (wire_flaw too_long)) (read_verdict (setting_of m cells) read)))
+    by true read = tt
+    by false (Err fault) = tt
+    by false (Ok read) = by_flaw (answer_flaw (setting_of m cells) read) read
+
+spelled_by : (address : Address) (bytes : List ℕ) (valid : Valid) (judged : Judged) → valid_as valid ≡ came_of bytes judged → SpelledAs address (from_value bytes) judged → IsSpelled address valid
+spelled_by address bytes (Accepted answer effects) (Accept own) e h = let same : own ≡ effects = cc in let read : bytes ≡ answer = cc in ap (λ (x : List ℕ). records_spelled address (from_value x)) (sym read) ∙ h ∙ ap (λ (x : Effects). x.egress) same
+spelled_by address bytes (Accepted answer effects) (Declare specs) e h = absurd cc
+spelled_by address bytes (Accepted answer effects) (Flaw flaw) e h = absurd cc
+spelled_by address bytes (Missed answer specs) (Accept own) e h = absurd cc
+spelled_by address bytes (Missed answer specs) (Declare own) e h = let read : bytes ≡ answer = cc in ap (λ (x : List ℕ). records_spelled address (from_value x)) (sym read) ∙ h
+spelled_by address bytes (Missed answer specs) (Flaw flaw) e h = absurd cc
+
+pub is_spelled : (m : Module) (c : Control) (address : Address) (told : Option Answered) (valid : Valid) → valid_as valid ≡ came m c address told → IsSpelled address valid
+is_spelled m c address None (Accepted answer effects) e = absurd cc
+is_spelled m c address None (Missed answer specs) e = absurd cc
+is_spelled m c address (Some (tells.Lost note)) (Accepted answer effects) e = absurd cc
+is_spelled m c address (Some (tells.Lost note)) (Missed answer specs) e = absurd cc
+is_spelled m c address (Some (tells.Answer bytes)) valid e =
+    spelled_by address bytes valid (judgement m (c.work.cells address) address c.moment bytes) e (judged_spelled m (c.work.cells address) address c.moment bytes)
 
 -- ---- how many cells there are behind a registration
 

@@ -16,12 +16,13 @@ use Rattle.partition_core.specs.declared.bounds.Bounds.{Bounds}
 use Rattle.partition_core.specs.Batches.{batch_at, opened_at}
 use Rattle.statefun_driver.specs.Seen.{Event, Seen, Hears}
 use Rattle.statefun_driver.specs.Turns.{Plan, Control, Phase, Reading, IsAsked, goes_on, at, quota, dues, own_now}
-use Rattle.statefun_driver.specs.Turns.{finish, opening, bounds_of, opened_by, open_batch, serve_first, serve, due_recorded, send_due, read_from, read_on}
+use Rattle.statefun_driver.specs.Turns.{finish_phase, opening, bounds_of, opened_by, open_batch, serve_first, serve, due_recorded, send_due, read_from, read_on}
+use Rattle.statefun_driver.specs.Origins.{IsHeld}
 use Rattle.statefun_driver.specs.Traces.{Trace, turns}
 use Rattle.statefun_driver.proofs.Moving.{Moved, moves}
 use Rattle.statefun_driver.proofs.Tracing as tracing
 use Rattle.statefun_driver.proofs.Journal.{grows_itself, grows_then, grows_one}
-use Rattle.statefun_driver.proofs.Standing.{Laws, IsFit, IsHeld, IsSound, held_recorded, makes_due, sound_one, sound_patient}
+use Rattle.statefun_driver.proofs.Standing.{Laws, IsFit, IsSound, held_recorded, makes_due, sound_one, sound_patient}
 
 -- ---- along a trace
 
@@ -56,7 +57,6 @@ along laws plan fit q P one c o events d t s =
 
 pub data Silent (plan : Plan) : Control → Control → Type 0 where
   Phased : (c : Control) (phase : Phase) → Silent plan c (at phase c)
-  Finished : (c : Control) → Silent plan c (finish plan c)
   Opened : (c : Control) (address : Address) (batch : List Letter) (phase : Phase) → Silent plan c (record c { work = opened_at address batch c.work; phase = phase })
   Marked : (c : Control) → Silent plan c (record c { left = true })
   Sent : (c : Control) (due : Delay × List Delay) → due_at c.moment c.work.delays ≡ Some due → IsHeld c.work c.moment → Silent plan c (due_recorded plan.routes due c)
@@ -70,14 +70,14 @@ pub silent_open : (plan : Plan) (address : Address) (most : ℕ) (c : Control) �
 silent_open plan address most c = by (endpoint_of plan.routes address.kind)
   where
     by : (o : Option Endpoint) → Silent plan c (opened_by plan address most c o)
-    by None = Finished c
+    by None = Phased c (finish_phase plan c)
     by (Some endpoint) = silent_opening plan (bounds_of endpoint most) address (batch_at (bounds_of endpoint most) c.moment address c.work) c
 
 silent_serve : (plan : Plan) (c : Control) → Silent plan c (serve plan c)
 silent_serve plan c = by (slice_get c.work.post.ready 0)
   where
     by : (o : Option Address) → Silent plan c (serve_first plan c o)
-    by None = Finished c
+    by None = Phased c (finish_phase plan c)
     by (Some address) = silent_open plan address (2 ^ 32) c
 
 silent_due : (laws : Laws) (plan : Plan) (n : ℕ) (c : Control) → IsHeld c.work c.moment → Silent plan c (send_due plan.routes n c)

@@ -1,7 +1,10 @@
 pub mod Seen
 pub mod Worlds
 pub mod Turns
+pub mod Parted
 pub mod Traces
 pub mod Work
 pub mod Runs
+pub mod Origins
+pub mod Stretches
 pub mod Laws

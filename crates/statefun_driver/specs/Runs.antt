@@ -20,14 +20,14 @@ use Rattle.run_record.specs.declared.entry.Entry.{Entry}
 use Rattle.run_record.specs.Machine.{State, first_state}
 use Rattle.run_record.specs.Record.{replayed}
 use Rattle.run_record.specs.Egress.{egress_of}
-use Rattle.run_record.specs.Backed.{AreBacked, calls_of}
+use Rattle.run_record.specs.Backed.{AreBacked, calls_of, same_call}
 use Rattle.partition_core.specs.Work.{state_of, is_idle}
 use Rattle.statefun_driver.specs.declared.end.Broken.TheVariants.{Ingress, Link, Memory}
 use Rattle.statefun_driver.specs.declared.end.End.{End}
 use Rattle.statefun_driver.specs.declared.end.End.TheVariants.{Done, TurnsSpent, RecordTooLarge, BatchTooLarge, EndpointFailed, Broke}
 use Rattle.statefun_driver.specs.Seen.{Event, Read, Start, Poll, Seen, IsCause}
 use Rattle.statefun_driver.specs.Turns.{Plan, Control, Phase, Reading, Opening, Waiting, Stopped, Came, Answers, Failed}
-use Rattle.statefun_driver.specs.Turns.{first_control, goes_on, came, own_part, same_call, longest, size_of, patience_at, attempts_at}
+use Rattle.statefun_driver.specs.Turns.{no_origin, first_control, goes_on, came, own_part, longest, size_of, patience_at, attempts_at}
 use Rattle.statefun_driver.specs.Traces.{Trace, IsEnd}
 
 -- ---- what the events were
@@ -174,15 +174,15 @@ pub record IsRun (plan : Plan) (before now : Seen) (entries : List Entry) (end :
   pub events : List Event
   pub last : Control
   -- each was what the turns ask for, and what the outside did
-  pub trace : Trace plan (first_control plan) before events last now
+  pub trace : Trace plan (first_control plan no_origin) before events last now
   pub is_end : IsEnd last entries end
   pub journal : now.journal ≡ more before.journal (link_events events)
   pub reads : IfSome now.lists (λ told. AreRead told events)
   pub replays : IfSome now.lists (λ told. Replays plan.routes told last × HasState plan.routes told entries)
   pub backed : IfSome now.lists (λ told. IfSome before.journal (λ done. IsFresh done → IsBackedRun plan.routes told now.exchanges entries))
-  pub bounded : AreBounded plan (first_control plan) events
+  pub bounded : AreBounded plan (first_control plan no_origin) events
   pub cause : IsCauseOf before now end
   pub tried : AreTried plan.routes end
   pub large : IsTooLarge plan.routes last end
   pub done : IfDone plan.routes before.lists last end
-  pub complete : NoneRose before now → AreServed plan (first_control plan) events → IsComplete end
+  pub complete : NoneRose before now → AreServed plan (first_control plan no_origin) events → IsComplete end

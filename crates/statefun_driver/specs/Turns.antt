@@ -1,6 +1,6 @@
 -- The turns of a run, as a machine that asks the outside one thing at a time.
-use Rattle.std.specs.Prelude.{◌≡◌, ℕ, zero, suc, ◌+◌, ◌-◌, filter, nat_eq, nat_lt, nat_le, max, min, List, [], ◌∷◌, ◌++◌, length, map, take, slice_get, ◌^◌}
-use Rattle.std.specs.Prelude.{Bool, true, false, not, ◌&&◌, if◌then◌else◌, Option, Some, None}
+use Rattle.std.specs.Prelude.{◌≡◌, ℕ, zero, suc, ◌+◌, ◌-◌, filter, nat_lt, nat_le, max, min, List, [], ◌∷◌, ◌++◌, length, map, take, slice_get, ◌^◌}
+use Rattle.std.specs.Prelude.{Bool, true, false, not, ◌&&◌, ◌||◌, if◌then◌else◌, Option, Some, None}
 use Rattle.std.specs.Option.{option_map_or}
 use Rattle.proto_wire.specs.Message.{capped}
 use Rattle.typed_values.specs.declared.address.Address.{Address}
@@ -29,6 +29,7 @@ use Rattle.run_record.specs.declared.entry.Reply.{Reply}
 use Rattle.run_record.specs.declared.entry.Step.{Step}
 use Rattle.run_record.specs.declared.entry.Step.TheVariants as step
 use Rattle.run_record.specs.Machine.{Act, Own, took, served, declared, sent_later}
+use Rattle.run_record.specs.Backed.{same_call}
 use Rattle.partition_core.specs.declared.bounds.Bounds.{Bounds}
 use Rattle.partition_core.specs.Work.{Work, no_work, own_in, done, counted, is_idle}
 use Rattle.partition_core.specs.Batches.{batch_at, opened_at, request_bytes}
@@ -36,10 +37,23 @@ use Rattle.statefun_driver.specs.declared.end.End.{End}
 use Rattle.statefun_driver.specs.declared.end.End.TheVariants.{Done, TurnsSpent, RecordTooLarge, BatchTooLarge, EndpointFailed, Broke}
 use Rattle.statefun_driver.specs.Seen.{Event, Read, Now, Start, Poll, Fails}
 
--- what is run: a module, for so many turns at most
+-- What is run: a module, for so many turns at most. Where it rests, no turn ends it by itself: who drives it says whether it
+-- goes on.
 pub record Plan : Type 0 where
   pub routes : Module
   pub turns : ℕ
+  pub rests : Bool
+
+-- what turns begin behind: the number of the last one, its moment, how many records were taken of each split, and the work left
+pub record Origin : Type 0 where
+  pub turn : ℕ
+  pub moment : ℕ
+  pub counts : ℕ → ℕ
+  pub work : Work
+
+-- nothing was done
+abbrev pub no_origin : Origin
+no_origin = record { turn = 0; moment = 0; counts = λ split. 0; work = no_work }
 
 -- a batch that is asked for, and why the attempts at it so far failed
 pub record Asked : Type 0 where
@@ -49,7 +63,7 @@ pub record Asked : Type 0 where
 
 -- what a run waits for
 pub data Phase : Type 0 where
-  -- the moment of a turn
+  -- the moment of the next turn
   Asking : Phase
   -- a record of a split, behind so many of it in this turn
   Reading : (split : ℕ) (count : ℕ) → Phase
@@ -60,6 +74,7 @@ pub data Phase : Type 0 where
   Stopped : (by : End) → Phase
 
 pub record Control : Type 0 where
+  -- the last turn that began
   pub turn : ℕ
   pub moment : ℕ
   -- how many calls were started in this turn
@@ -116,17 +131,29 @@ unfoldable pub taken_in : List Entry → ℕ
 taken_in entries = length (filter is_take entries)
 
 -- behind so many turns: the next one, or the end
+abbrev pub goes_on_behind : Plan → ℕ → Bool
+goes_on_behind plan turns = plan.rests || nat_lt turns plan.turns
+
 abbrev pub turns_phase : Plan → ℕ → List Entry → Phase
-turns_phase plan turns entries = if nat_lt turns plan.turns then Asking else Stopped (TurnsSpent (taken_in entries))
+turns_phase plan turns entries = if goes_on_behind plan turns then Asking else Stopped (TurnsSpent (taken_in entries))
 
 abbrev pub is_done : Control → Bool
 is_done c = not c.left && is_idle c.work
 
+abbrev pub ends_done : Plan → Control → Bool
+ends_done plan c = not plan.rests && is_done c
+
 abbrev pub finish_phase : Plan → Control → Phase
-finish_phase plan c = if is_done c then Stopped (Done (taken_in c.entries)) else turns_phase plan c.turn c.entries
+finish_phase plan c = if ends_done plan c then Stopped (Done (taken_in c.entries)) else turns_phase plan c.turn c.entries
 
 abbrev pub finish : Plan → Control → Control
-finish plan c = record c { turn = c.turn + 1; calls = 0; left = false; before = length c.entries; phase = finish_phase plan c }
+finish plan c = at (finish_phase plan c) c
+
+-- ---- the begin of a turn
+
+-- at the greatest moment so far
+abbrev pub begun : ℕ → Control → Control
+begun moment c = record c { turn = c.turn + 1; moment = max c.moment moment; calls = 0; left = false; before = length c.entries }
 
 -- ---- the batch of a turn
 
@@ -214,9 +241,6 @@ read plan split count c (Some found) =
 abbrev pub call_of : Control → Call
 call_of c = record { leg = c.turn; partition = 0; turn = c.calls }
 
-abbrev pub same_call : Call → Call → Bool
-same_call a b = nat_eq a.leg b.leg && nat_eq a.partition b.partition && nat_eq a.turn b.turn
-
 -- what a poll told of a call
 abbrev pub own_part : Call → Option Outcome → Option Answered
 own_part call None = None
@@ -299,21 +323,29 @@ IsAsked m phase c event = ⊥
 abbrev pub goes_on : Plan → Phase → Control → Event → Control
 goes_on plan (Stopped by) c event = c
 goes_on plan phase c (Fails by) = at (Stopped (Broke by)) c
-goes_on plan Asking c (Now moment) = read_from plan 0 (record c { moment = max c.moment moment })
+goes_on plan Asking c (Now moment) = read_from plan 0 (begun moment c)
 goes_on plan (Reading split count) c (Read s offset found) = read plan split count c found
 goes_on plan (Opening batch) c (Start call url request) = wait plan batch call 0 (record c { calls = c.calls + 1 })
 goes_on plan (Waiting batch call polls) c (Poll outcome) = polled plan batch call polls c (own_part call outcome)
 goes_on plan phase c event = c
 
-abbrev pub first_control : Plan → Control
-first_control plan = record {
-  turn = 1;
-  moment = 0;
+-- nothing is recorded yet
+abbrev pub rested : Origin → Control
+rested start = record {
+  turn = start.turn;
+  moment = start.moment;
   calls = 0;
   left = false;
-  counts = λ split. 0;
-  work = no_work;
+  counts = start.counts;
+  work = start.work;
   entries = [];
   before = 0;
-  phase = turns_phase plan 0 [];
+  phase = Asking;
 }
+
+abbrev pub first_control : Plan → Origin → Control
+first_control plan start = at (turns_phase plan start.turn []) (rested start)
+
+-- what turns begin behind that are made from here on
+abbrev pub origin_of : Control → Origin
+origin_of c = record { turn = c.turn; moment = c.moment; counts = c.counts; work = c.work }

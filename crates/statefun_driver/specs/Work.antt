@@ -1,8 +1,9 @@
 -- What a run has done, as a control of the turns.
-use Rattle.std.specs.Prelude.{◌≡◌, ℕ, ◌+◌, ◌<◌, ◌≤◌, true, get_or, length, List, [], map, take, Option, Some, None, Result, Ok, Err}
+use Rattle.std.specs.Prelude.{◌≡◌, ℕ, ◌+◌, ◌<◌, ◌≤◌, true, get_or, vec_len, length, List, [], map, take, Option, Some, None, Result, Ok, Err}
 use Rattle.typed_values.specs.declared.address.Address.{Address}
 use Rattle.typed_values.specs.declared.cells.Cell.{Cell}
 use Rattle.request_reply.specs.declared.flaw.Reason.{Reason}
+use Rattle.request_reply.specs.Spelling.{from_value}
 use Rattle.state_cells.specs.Kept.{most_cells}
 use Rattle.batch_queue.specs.Post.{is_ready}
 use Rattle.address_routing.specs.declared.module.Module.{Module}
@@ -10,6 +11,7 @@ use Rattle.address_routing.specs.Routing.{url_of}
 use Rattle.invocation.specs.declared.judging.Judged.TheVariants.{Accept, Register as Declare}
 use Rattle.invocation.specs.Laws.{TakesAll, AreNew}
 use Rattle.run_record.specs.declared.entry.Entry.{Entry}
+use Rattle.run_record.specs.Egress.{records_spelled}
 use Rattle.partition_core.specs.Batches.{sender_of, request_bytes}
 use Rattle.partition_core.specs.Kept.{work_of}
 use Rattle.statefun_driver.specs.declared.attempts.Asked.{Asked}
@@ -24,7 +26,7 @@ use Rattle.statefun_driver.specs.Turns.{Plan, Control, Asking, Opening, Asked as
 use Rattle.statefun_driver.specs.Traces.{Leads, Ends, IsFront}
 
 abbrev pub plan_of : Job → Plan
-plan_of job = record { routes = job.routes; turns = job.turns }
+plan_of job = record { routes = job.routes; turns = job.turns; rests = job.rests }
 
 unfoldable pub here : Progress → Control
 here p = record {
@@ -38,6 +40,10 @@ here p = record {
   before = p.before;
   phase = Asking;
 }
+
+-- how many splits it counts
+unfoldable pub splits_of : Progress → ℕ
+splits_of p = vec_len p.counts
 
 -- a part of a run led there, or the run ended in it
 abbrev pub Led : {A : Type 0} → Plan → Control → Seen → Result A End → Control → List Entry → Seen → Type 0
@@ -94,6 +100,11 @@ came_as (Err reason) = Failed reason
 abbrev pub IsTaken : List Cell → Valid → Type 0
 IsTaken cells (Accepted answer effects) = TakesAll cells effects.mutations
 IsTaken cells (Missed answer specs) = AreNew cells specs × (0 < length specs)
+
+-- what a valid answer gives to egresses is what it spells
+abbrev pub IsSpelled : Address → Valid → Type 0
+IsSpelled address (Accepted answer effects) = records_spelled address (from_value answer) ≡ effects.egress
+IsSpelled address (Missed answer specs) = records_spelled address (from_value answer) ≡ []
 
 -- where the turns go on behind a valid answer
 abbrev pub replied : Plan → Address → Answer → Control → Control

@@ -8,7 +8,7 @@ ghost use Rattle.statefun_driver.specs.declared.end.End.TheVariants.{Broke as Ha
 ghost use Rattle.statefun_driver.specs.Seen.{Seen};
 ghost use Rattle.statefun_driver.specs.Turns.{call_of, came, fated, finish, open_batch, own_part, patience_at, serve};
 ghost use Rattle.statefun_driver.specs.Runs.{AreModest};
-ghost use Rattle.statefun_driver.specs.Work.{Reasons, Led, LedBy, IfAgain, IsAskedIn, IsCalledBy, IsTaken, called, came_as, flying, here, opening_at, plan_of, replied, served_on};
+ghost use Rattle.statefun_driver.specs.Work.{Reasons, Led, LedBy, IfAgain, IsAskedIn, IsCalledBy, IsSpelled, IsTaken, called, came_as, flying, here, opening_at, plan_of, replied, served_on};
 
 use crate::job::Job;
 use crate::outside::Outside;
@@ -156,6 +156,7 @@ impl Progress {
         ensures led { LedBy (plan_of job.now) (opening_at asked.now.address [] (here self.old)) (O.seen outside.old)
             result (λ answer. replied (plan_of job.now) asked.now.address answer (here self.new)) self.new.entries (O.seen outside.new) }
         ensures taken { IfOk result (λ answer. IsTaken ((here self.old).work.cells asked.now.address) answer.valid) }
+        ensures spelled { IfOk result (λ answer. IsSpelled asked.now.address answer.valid) }
         ensures kept { self.new ≡ record self.old { calls = self.new.calls } }
         ensures calls { self.new.calls ≤ self.old.calls + endpoint.now.attempts }
     {
@@ -239,6 +240,7 @@ impl Progress {
         requires some { 0 < length asked.batch.picks }
         requires few { length asked.batch.picks < 2 ^ 32 }
         requires taken { IsTaken ((here self.old).work.cells asked.address) answer.valid }
+        requires spelled { IsSpelled asked.address answer.valid }
         ensures led { (seen : Seen) → LedBy (plan_of job.now) (replied (plan_of job.now) asked.address answer (here self.old)) seen
             result (λ again. served_on (plan_of job.now) asked.address again (here self.new)) self.new.entries seen }
         ensures again { IfOk result (λ again. IfAgain asked.address (length asked.batch.picks) (here self.old) (here self.new) again) }
@@ -251,8 +253,8 @@ impl Progress {
         match valid {
             Valid::Accepted { answer, effects } => {
                 let reply = self.reply(call, address, batch.picks, answer);
-                let _egress = self.partition.serve(&reply, effects)?;
-                self.note(job.splits, Step::Batch(reply))?;
+                let egress = self.partition.serve(&reply, effects)?;
+                self.note_batch(job.splits, reply, egress)?;
                 Ok(None)
             }
             Valid::Missed { answer, specs } => {

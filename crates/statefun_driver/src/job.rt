@@ -1,17 +1,19 @@
 //! What is run.
-ghost use Rattle.std.specs.Prelude.{◌≡◌, ◌≤◌};
+ghost use Rattle.std.specs.Prelude.{◌≡◌, ◌≤◌, true, false};
 ghost use Rattle.address_routing.specs.Routing.{splits_in};
 
 use address_routing::{IngressSpec, Routes};
 
 /// What is run.
 #[derive(Drop)]
-pub(crate) struct Job {
-    pub(crate) routes: Routes,
-    /// The most turns.
-    pub(crate) turns: u64,
+pub struct Job {
+    pub routes: Routes,
+    /// The most turns, where no other drives it.
+    pub turns: u64,
+    /// Whether its turns are driven one by one: then none of them ends it.
+    pub rests: bool,
     /// How many splits the ingresses have.
-    pub(crate) splits: u32,
+    pub splits: u32,
     ghost all: { splits ≡ splits_in routes.ingresses },
 }
 
@@ -20,11 +22,27 @@ impl Job {
     pub(crate) fn new(routes: Routes, turns: u64) -> Job
         ensures routes { result.routes ≡ routes }
         ensures turns { result.turns ≡ turns }
+        ensures rests { result.rests ≡ false }
     {
         let splits = splits_in(routes.module().ingresses.as_slice());
         Job {
             routes,
             turns,
+            rests: false,
+            splits,
+        }
+    }
+
+    /// The job of these routes, whose turns are driven one by one.
+    pub fn driven(routes: Routes) -> Job
+        ensures routes { result.routes ≡ routes }
+        ensures rests { result.rests ≡ true }
+    {
+        let splits = splits_in(routes.module().ingresses.as_slice());
+        Job {
+            routes,
+            turns: 0,
+            rests: true,
             splits,
         }
     }

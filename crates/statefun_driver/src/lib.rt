@@ -9,10 +9,14 @@ mod outside;
 mod progress;
 mod running;
 mod settled;
+mod steps;
 mod world;
 
 pub use end::{Broken, End};
-pub use laws::what_turns_come_to_is_a_run;
+pub use job::Job;
+pub use laws::{what_turns_come_to, what_turns_come_to_is_a_run};
 pub use outside::Outside;
+pub use progress::Progress;
 pub use running::{Ran, run};
+pub use steps::Cut;
 pub use world::World;

@@ -1,19 +1,26 @@
 //! What a run has done so far, and its turns.
-ghost use Rattle.std.specs.Prelude.{◌≡◌, ◌<◌, ◌≤◌, ◌^◌, ◌+◌, ◌-◌, length, ◌++◌, ◌∷◌, [], IfOk, OnOk, OnErr, false, get_or, vec_len, filter};
+ghost use Rattle.std.specs.Prelude.{◌≡◌, ◌<◌, ◌≤◌, ◌^◌, ◌+◌, ◌-◌, ℕ, length, max, ◌++◌, ◌∷◌, [], IfOk, OnOk, OnErr, true, false, get_or, vec_len};
+ghost use Rattle.run_record.specs.declared.entry.Step.TheVariants.{Batch as IsBatch};
+ghost use Rattle.run_record.specs.Egress.{records_of_reply};
+ghost use Rattle.partition_core.specs.Kept.{work_of};
 ghost use Rattle.sf_outside.specs.declared.ingress.IngressRecord.{IngressRecord};
 ghost use Rattle.statefun_driver.specs.Runs.{AreModest};
 ghost use Rattle.statefun_driver.specs.Traces.{Ends};
-ghost use Rattle.statefun_driver.specs.Turns.{Asking, Reading, at, dues, finish, first_control, is_done, is_take, read_from, send_due, serve, size_of, take_record, taken_in};
-ghost use Rattle.statefun_driver.specs.Work.{Led, IsSentFront, here, plan_of};
+ghost use Rattle.statefun_driver.specs.Turns.{Asking, Reading, at, dues, finish, first_control, is_done, no_origin, read_from, rested, send_due, serve, size_of, origin_of, take_record};
+ghost use Rattle.statefun_driver.specs.Parted.{given_by, IsParted};
+ghost use Rattle.statefun_driver.specs.Work.{Led, IsSentFront, here, plan_of, splits_of};
 
 use crate::End;
 use crate::job::Job;
 use crate::outside::Outside;
+use crate::steps::{Cut, Steps, taken_in};
 use partition_core::Partition;
 use proto_wire::{List, Mem};
-use run_record::{Entry, Step, letters_of};
+use run_record::{Entry, Reply, Step, letters_of};
 use sf_outside::IngressRecord;
 use std::alloc::Global;
+use std::mem;
+use typed_values::EgressRecord;
 
 /// At most so many records of a split are taken in a turn.
 const QUOTA: u32 = 64;
@@ -30,7 +37,7 @@ pub struct Progress {
     pub(crate) partition: Partition,
     /// How many records of each split were taken.
     pub(crate) counts: Vec<u64>,
-    /// The number of the turn, from 1.
+    /// The number of the last turn that began, from 1 on; 0 behind none.
     pub(crate) turn: u64,
     /// The greatest moment so far, in milliseconds.
     pub(crate) moment: u64,
@@ -38,32 +45,42 @@ pub struct Progress {
     pub(crate) calls: u32,
     /// Whether a split may have more records.
     pub(crate) left: bool,
-    pub(crate) entries: List<Entry>,
+    pub(crate) entries: Steps,
     /// How many of the entries stem from the turns before.
     pub(crate) before: usize,
 }
 
 impl Progress {
-    /// Nothing was done.
-    #[tactic(auto, unfolding(crate::specs::Work::here))]
-    pub(crate) fn new(alloc: Global, job: &Job) -> Mem<Progress>
-        ensures here { IfOk result (λ progress. here progress ≡ at Asking (first_control (plan_of job.now))) }
-        ensures counts { IfOk result (λ progress. vec_len progress.counts ≡ job.now.splits) }
+    /// Turns begin behind others, with the work that is left and so many records taken of each split.
+    #[tactic(auto, unfolding(crate::specs::Work::here, crate::specs::Work::splits_of))]
+    pub fn resume(
+        alloc: Global,
+        job: &Job,
+        turn: u64,
+        moment: u64,
+        taken: &[u64],
+        partition: Partition,
+    ) -> Mem<Progress>
+        requires { length taken.now ≤ job.now.splits }
+        ensures here { IfOk result (λ progress. here progress ≡
+            rested (record { turn = turn; moment = moment; counts = λ split. get_or taken.now split 0; work = work_of partition })) }
+        ensures splits { IfOk result (λ progress. splits_of progress ≡ job.now.splits) }
     {
         Ok(Progress {
-            partition: Partition::new(alloc)?,
-            counts: vec![in alloc; 0u64; job.splits as usize]?,
-            turn: 1,
-            moment: 0,
+            partition,
+            counts: counts_of(alloc, taken, job.splits)?,
+            turn,
+            moment,
             calls: 0,
             left: false,
-            entries: List::new(alloc),
+            entries: Steps::new(alloc),
             before: 0,
         })
     }
 
-    /// Records a step of a node. An `Err` leaves the record as it was.
+    /// Records a step of a node that gives nothing to egresses. An `Err` leaves the record as it was.
     pub(crate) fn note(&mut self, node: u32, step: Step) -> Mem<()>
+        requires { given_by step ≡ [] }
         ensures ok { OnOk result (self.new ≡ record self.old {
           entries = self.old.entries
               ++ record { leg = self.old.turn; stamp = length self.old.entries - self.old.before + 1; node = node; step = step } ∷ [];
@@ -73,13 +90,47 @@ impl Progress {
         ensures calls { self.new.calls ≡ self.old.calls }
         ensures turn { self.new.turn ≡ self.old.turn }
     {
+        let entry = self.entry(node, step);
+        self.entries.push(entry)
+    }
+
+    /// Records a batch of a node, and what it gives to egresses. An `Err` leaves the record as it was.
+    pub(crate) fn note_batch(
+        &mut self,
+        node: u32,
+        reply: Reply,
+        egress: List<EgressRecord>,
+    ) -> Mem<()>
+        requires { records_of_reply reply ≡ egress }
+        ensures ok { OnOk result (self.new ≡ record self.old {
+          entries = self.old.entries
+              ++ record { leg = self.old.turn; stamp = length self.old.entries - self.old.before + 1; node = node; step = IsBatch reply } ∷ [];
+        }) }
+        ensures err { OnErr result (self.new.entries ≡ self.old.entries) }
+        ensures counts { self.new.counts ≡ self.old.counts }
+        ensures calls { self.new.calls ≡ self.old.calls }
+        ensures turn { self.new.turn ≡ self.old.turn }
+    {
+        let entry = self.entry(node, Step::Batch(reply));
+        self.entries.push_with(entry, egress)
+    }
+
+    /// A step of a node, as the next of the turn.
+    fn entry(&self, node: u32, step: Step) -> Entry
+        ensures { result ≡ record {
+          leg = self.now.turn;
+          stamp = length self.now.entries - self.now.before + 1;
+          node = node;
+          step = step;
+        } }
+    {
         let made = self.entries.as_slice().len().saturating_sub(self.before) as u64;
-        self.entries.push(Entry {
+        Entry {
             leg: self.turn,
             stamp: made + 1,
             node,
             step,
-        })
+        }
     }
 
     /// Takes a record of a split. An `Err` leaves the record of the steps as it was.
@@ -172,6 +223,24 @@ impl Progress {
         Ok(())
     }
 
+    /// The next turn begins, at the greatest moment so far.
+    fn begin(&mut self, now: u64)
+        requires { self.old.turn + 1 < 2 ^ 64 }
+        ensures { self.new ≡ record self.old {
+          turn = self.old.turn + 1;
+          moment = max self.old.moment now;
+          calls = 0;
+          left = false;
+          before = length self.old.entries;
+        } }
+    {
+        self.turn += 1;
+        self.moment = self.moment.max(now);
+        self.calls = 0;
+        self.left = false;
+        self.before = self.entries.as_slice().len();
+    }
+
     /// Makes a turn.
     fn make_turn<O: Outside>(
         &mut self,
@@ -180,36 +249,87 @@ impl Progress {
         outside: &mut O,
     ) -> Result<(), End>
         requires counts { vec_len self.old.counts ≡ job.now.splits }
-        requires calls { self.old.calls ≡ 0 }
+        requires turn { self.old.turn + 1 < 2 ^ 64 }
         requires attempts { AreModest job.now.routes.endpoints }
         ensures led { Led (plan_of job.now) (at Asking (here self.old)) (O.seen outside.old)
             result (finish (plan_of job.now) (here self.new)) self.new.entries (O.seen outside.new) }
         ensures counts { vec_len self.new.counts ≡ vec_len self.old.counts }
-        ensures turn { self.new.turn ≡ self.old.turn }
+        ensures turn { self.new.turn ≡ self.old.turn + 1 }
     {
-        self.moment = self.moment.max(outside.now());
+        let now = outside.now();
+        self.begin(now);
         self.read_splits(alloc, job, outside)?;
         self.send_due(job)?;
         self.serve(alloc, job, outside)
     }
 
+    /// Makes a turn of a job whose turns are driven. Behind an `Err` no turn may be made.
+    #[tactic(auto, unfolding(crate::specs::Work::splits_of))]
+    pub fn leg<O: Outside>(&mut self, alloc: Global, job: &Job, outside: &mut O) -> Result<(), End>
+        requires driven { job.now.rests ≡ true }
+        requires splits { splits_of self.old ≡ job.now.splits }
+        requires turn { (here self.old).turn + 1 < 2 ^ 64 }
+        requires attempts { AreModest job.now.routes.endpoints }
+        ensures led { Led (plan_of job.now) (here self.old) (O.seen outside.old) result (here self.new) (here self.new).entries (O.seen outside.new) }
+        ensures splits { splits_of self.new ≡ splits_of self.old }
+        ensures turn { (here self.new).turn ≡ (here self.old).turn + 1 }
+    {
+        self.make_turn(alloc, job, outside)
+    }
+
+    /// The number of the last turn that began.
+    #[tactic(auto, unfolding(crate::specs::Work::here))]
+    pub fn turn(&self) -> u64
+        ensures { result ≡ (here self.now).turn }
+    {
+        self.turn
+    }
+
+    /// Its moment, in milliseconds: the greatest so far.
+    #[tactic(auto, unfolding(crate::specs::Work::here))]
+    pub fn moment(&self) -> u64
+        ensures { result ≡ (here self.now).moment }
+    {
+        self.moment
+    }
+
+    /// How many records of each split were taken.
+    #[tactic(auto, unfolding(crate::specs::Work::here, crate::specs::Work::splits_of))]
+    pub fn counts(&self) -> &[u64]
+        ensures counts { ◌≡◌ {A = ℕ → ℕ} (here self.now).counts (λ split. get_or result.now split 0) }
+        ensures splits { length result.now ≡ splits_of self.now }
+    {
+        self.counts.as_slice()
+    }
+
+    /// The work that is left.
+    #[tactic(auto, unfolding(crate::specs::Work::here))]
+    pub fn partition(&self) -> &Partition
+        ensures { work_of result.now ≡ (here self.now).work }
+    {
+        &self.partition
+    }
+
     /// Whether no split may have more records, and nothing is left to do.
     #[tactic(auto, unfolding(crate::specs::Work::here))]
-    fn is_done(&self) -> bool
+    pub fn is_done(&self) -> bool
         ensures { result ≡ is_done (here self.now) }
     {
         !self.left && self.partition.is_idle()
     }
 
-    /// The next turn begins.
-    fn begin(&mut self)
-        requires { self.old.turn < 2 ^ 63 }
-        ensures { self.new ≡ record self.old { turn = self.old.turn + 1; calls = 0; left = false; before = length self.old.entries } }
+    /// Takes out what was recorded since the start or the last cut: turns begin anew behind those that were made. What an `Err`
+    /// leaves of the record is gone.
+    #[tactic(auto, unfolding(crate::specs::Work::here, crate::specs::Work::splits_of))]
+    pub fn cut(&mut self, alloc: Global) -> Mem<Cut>
+        ensures cut { IfOk result (IsParted (here self.old).entries) }
+        ensures here { here self.new ≡ rested (origin_of (here self.old)) }
+        ensures splits { splits_of self.new ≡ splits_of self.old }
     {
-        self.turn += 1;
         self.calls = 0;
         self.left = false;
-        self.before = self.entries.len();
+        self.before = 0;
+        mem::replace(&mut self.entries, Steps::new(alloc)).part(alloc)
     }
 
     /// Makes turns until one ends the run, and no more than are allowed.
@@ -219,11 +339,12 @@ impl Progress {
         job: &Job,
         outside: &mut O,
     ) -> End
-        requires first { here self.old ≡ at Asking (first_control (plan_of job.now)) }
+        requires first { here self.old ≡ rested no_origin }
         requires counts { vec_len self.old.counts ≡ job.now.splits }
+        requires alone { job.now.rests ≡ false }
         requires attempts { AreModest job.now.routes.endpoints }
         requires turns { job.now.turns ≤ 1000000000 }
-        ensures { Ends (plan_of job.now) (first_control (plan_of job.now)) (O.seen outside.old) self.new.entries result (O.seen outside.new) }
+        ensures { Ends (plan_of job.now) (first_control (plan_of job.now) no_origin) (O.seen outside.old) self.new.entries result (O.seen outside.new) }
     {
         for _ in 0..job.turns {
             if let Err(end) = self.make_turn(alloc, job, outside) {
@@ -234,7 +355,6 @@ impl Progress {
                     taken: taken_in(self.entries.as_slice()),
                 };
             }
-            self.begin();
         }
         End::TurnsSpent {
             taken: taken_in(self.entries.as_slice()),
@@ -242,36 +362,20 @@ impl Progress {
     }
 }
 
+/// So many records taken of each split, of so many splits.
+fn counts_of(alloc: Global, taken: &[u64], splits: u32) -> Mem<Vec<u64>>
+    requires { length taken.now ≤ splits }
+    ensures counts { IfOk result (λ counts. ◌≡◌ {A = ℕ → ℕ} (λ split. get_or counts.items split 0) (λ split. get_or taken.now split 0)) }
+    ensures splits { IfOk result (λ counts. vec_len counts ≡ splits) }
+{
+    let mut counts = taken.to_vec(alloc)?;
+    counts.resize(splits as usize, 0)?;
+    Ok(counts)
+}
+
 /// How many bytes a record's key and value have together.
 fn size_of(found: &IngressRecord) -> u64
     ensures { result ≡ size_of found.now }
 {
     found.key.as_bytes().len() as u64 + found.value.as_slice().len() as u64
-}
-
-/// How many records a record of steps takes.
-#[tactic(auto, unfolding(crate::specs::Turns::taken_in))]
-fn taken_in(entries: &[Entry]) -> u64
-    ensures { result ≡ taken_in entries.now }
-{
-    takes_of(entries) as u64
-}
-
-/// How many entries take a record.
-fn takes_of(entries: &[Entry]) -> usize
-    ensures { result ≡ length (filter is_take entries.now) }
-{
-    entries.iter().filter(|entry| is_take(entry)).count()
-}
-
-/// Whether an entry takes a record.
-fn is_take(entry: &Entry) -> bool
-    ensures { result ≡ is_take entry.now }
-{
-    match &entry.step {
-        Step::Take(_split) => true,
-        Step::Batch(_reply) => false,
-        Step::Register(_reply) => false,
-        Step::Due { .. } => false,
-    }
 }

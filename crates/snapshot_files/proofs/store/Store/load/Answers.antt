@@ -1,4 +1,4 @@
-use Rattle.std.proofs.Common.{◌-◌, ℕ, List, map, length, slice_index_or, sym, ap, subst, ◌∙◌, arith}
+use Rattle.std.proofs.Common.{inl, inr, ◌-◌, ℕ, List, map, length, slice_index_or, sym, ap, subst, ◌∙◌, arith}
 use Rattle.std.proofs.lemmas.Result.{err_from_is_err_and}
 use Rattle.sf_disk.specs.Moments.{newest}
 use Rattle.folder_messages.specs.declared.manifest.Place.{Place}
@@ -31,3 +31,9 @@ returns-clause-loaded g c = λ m told contents pending is.
     let told_then = ap newest c.complete_at.ensures.same ∙ told in
     loaded_is contents n f.checkpoint complete c.in_ok-taken.taken c.in_ok-parts.parts.pieces c.in_ok-parts.parts.feedback (ap length c.as_slice-newest.ensures ∙ is.newest_is) f.at f.mark (c.in_ok-taken.ensures ∙ ap (map count_of) c.as_slice-3.ensures)
     (c.in_ok-parts.ensures.pieces m told_then is.files f.checkpoint.parts has) (c.in_ok-parts.ensures.feedback m told_then is.files f.checkpoint.parts has)
+
+pub returns-then-newest-eq0-clause-fits : goal.returns-then-newest-eq0-clause-fits
+returns-then-newest-eq0-clause-fits g c = inl c.nothing.ensures
+
+pub returns-clause-fits : goal.returns-clause-fits
+returns-clause-fits g c = inr c.in_ok-parts.ensures.fits

@@ -5,6 +5,7 @@ use Rattle.sf_disk.proofs.Onward.{since_as}
 use Rattle.block_log.proofs.Opening.{since_to}
 use Rattle.folder_form.specs.Folders.{Files}
 use Rattle.snapshot_files.specs.Steps.{IsFolder}
+use Rattle.snapshot_files.proofs.Owned.{shape_told}
 use Rattle.snapshot_files.proofs.WholeFolder.{opens_text, log_refused, text_refused, job_since, folder_opened, job_now, store_opened, store_refused, store_partitions}
 use Rattle.snapshot_files.proofs.store.Store.open_store.Goals as goal
 
@@ -57,3 +58,6 @@ returns-clause-refuses g c =
     let pieces = c.in_ok-logs.logs.pieces.items in
     let opened = folder_opened _ _ _ old manifest pieces c.args.job.now c.open_logs.ensures.meanwhile c.in_ok-logs.ensures.opened c.in_ok-begin_with.ensures.begun in
     store_refused _ _ _ c.read.ensures.same manifest pieces c.args.job.now c.in_ok-try_clone.field-0 c.in_ok-try_clone.ensures c.args.partitions c.requires.names opened c.read.result c.read.ensures.refuses
+
+pub returns-clause-shape : goal.returns-clause-shape
+returns-clause-shape g c = shape_told c.args.job.now c.in_ok-try_clone.field-0 c.in_ok-try_clone.ensures c.read.result c.read.ensures.shape

@@ -1,7 +1,8 @@
-use Rattle.std.proofs.Common.{arith, ◌≡◌, ◌+◌, ◌∙◌, Some, slice_get, refl, ap}
+use Rattle.std.proofs.Common.{arith, sym, ◌≡◌, ◌+◌, ◌∙◌, Some, slice_get, refl, ap}
 use Rattle.std.proofs.lemmas.Option.{slice_get_read}
 use Rattle.folder_form.specs.Folders.{piece_in}
 use Rattle.snapshot_files.specs.Stores.{home_in}
+use Rattle.snapshot_files.proofs.Owned.{piece_owned}
 use Rattle.snapshot_files.proofs.Checkpoints.{open_at, spells, breaks}
 use Rattle.snapshot_files.proofs.store.Store.piece_at.Goals as goal
 
@@ -24,3 +25,9 @@ returns-clause-refuses g c = λ m told. (
       breaks (piece_in (home_in s.shape c.args.partition) c.args.moment) c.args.place (files (2 + c.args.partition)) c.in_ok-body.field-0 c.in-Some.body there c.in-Some.is c.in_ok-piece.field-0
       (c.in_ok-piece.ensures ∙ ap (λ h. piece_in h c.args.moment c.as_slice.result.now) c.home.ensures ∙ ap (piece_in (home_in s.shape c.args.partition) c.args.moment) c.as_slice.ensures) c.in-None.is,
 )
+
+pub returns-in-Some-2-clause-owned : goal.returns-in-Some-2-clause-owned
+returns-in-Some-2-clause-owned g c =
+    let s = c.args.self.now in
+    piece_owned (home_in s.shape c.args.partition) c.args.moment c.as_slice.result.now c.in-Some-2.piece
+    (sym (ap (λ h. piece_in h c.args.moment c.as_slice.result.now) c.home.ensures) ∙ sym c.in_ok-piece.ensures ∙ c.in-Some-2.is)

@@ -12,7 +12,7 @@ use Rattle.statefun_driver.proofs.Leading.{ends_then, ends_wanting}
 use Rattle.statefun_driver.proofs.Fronts.{front_same}
 use Rattle.statefun_driver.proofs.Resting.{tried_unbroken}
 use Rattle.statefun_driver.proofs.Trying.{attempts_is, patience_is, tries, attempt_failed, attempt_answered, tried_out, attempt_wants, only_calls, asked_still, cells_still}
-use Rattle.statefun_driver.proofs.Taking.{is_taken}
+use Rattle.statefun_driver.proofs.Taking.{is_taken, is_spelled}
 use Rattle.statefun_driver.proofs.progress.Progress.exchange.Goals as goal
 
 pub attempt-requires-clause-asked : goal.attempt-requires-clause-asked
@@ -108,3 +108,7 @@ returns-clause-led g c =
     subst (λ (a : Address). Ends (plan_of c.args.job.now) (opening_at c.args.asked.now.address [] (here c.args.self.now)) (g.O.Outside.seen c.args.outside.now) c.loop.self.entries (EndpointFailed a c.loop.reasons) (g.O.Outside.seen c.loop.outside))
     (sym c.in_ok-try_clone.ensures)
     (tried_out (plan_of c.args.job.now) (opening_at c.args.asked.now.address [] (here c.args.self.now)) (g.O.Outside.seen c.args.outside.now) c.args.asked.now.address c.loop.reasons (here c.loop.self) (g.O.Outside.seen c.loop.outside) c.loop.invariant.leads none)
+
+pub returns-in-Ok-clause-spelled : goal.returns-in-Ok-clause-spelled
+returns-in-Ok-clause-spelled g c =
+    is_spelled c.args.job.now.routes (here c.attempt.new.self) c.args.asked.now.address c.in_ok-told.told c.in-Ok.valid (ap came_as (sym c.in-Ok.is) ∙ c.in_ok-reason.ensures)

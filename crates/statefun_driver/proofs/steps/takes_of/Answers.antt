@@ -2,7 +2,7 @@ use Rattle.std.proofs.Common.{rules, tests}
 use Rattle.std.proofs.lemmas.Iterator.{YieldsList-from_slice}
 use Rattle.std.proofs.lemmas.Iterator.Consumers.{YieldsList-from_filter, count_from_yields_List}
 use Rattle.statefun_driver.specs.Turns.{is_take}
-use Rattle.statefun_driver.proofs.progress.takes_of.Goals as goal
+use Rattle.statefun_driver.proofs.steps.takes_of.Goals as goal
 
 pub returns : goal.returns
 returns c =

@@ -1,0 +1,9 @@
+use Rattle.std.proofs.Common.{◌≡◌, drop}
+use Rattle.run_record.specs.StateOf.{state_of}
+use Rattle.checkpoint_state.specs.Stored.{letters_in}
+use Rattle.checkpoint_state.specs.Matching.{with_letters}
+use Rattle.checkpoint_state.proofs.matching.put_letters_in.Given as goal
+
+-- what is left leads to the same whole
+abbrev pub invariant-loop-piece : goal.invariant-loop-piece
+invariant-loop-piece l = with_letters (letters_in (drop l.piece-index l.pieces)) (state_of l.machine) ≡ with_letters (letters_in l.pieces) (state_of l.fn.machine)

@@ -1,0 +1,4 @@
+pub mod Stored
+pub mod Meaning
+pub mod Laws
+pub mod Matching
