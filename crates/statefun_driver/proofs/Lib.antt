@@ -19,7 +19,7 @@ mod Moving
 mod Lined
 mod Opening
 mod Stamped
-mod Journal
+pub mod Journal
 mod Standing
 mod Ways
 mod Causes

@@ -3,10 +3,10 @@ use Rattle.checkpoint_drive.proofs.laws.what_legs_complete_is_good.Goals as goal
 
 pub returns : goal.returns
 returns c = legs_complete_what_is_good (record {
-      stretches = c.what_turns_come_to.ensures;
-      next = c.a_checkpoint_behind_a_good_record_is_good.ensures;
-      lists = c.longer_lists_keep_what_is_good.ensures;
-      backing = c.backed_records_go_on.ensures;
-      leads = c.entries_lead_to_the_next_checkpoint.ensures;
-      egress = c.egress_backs_no_step.ensures;
-    })
+  stretches = c.what_turns_come_to.ensures;
+  next = c.a_checkpoint_behind_a_good_record_is_good.ensures;
+  lists = c.longer_lists_keep_what_is_good.ensures;
+  backing = c.backed_records_go_on.ensures;
+  leads = c.entries_lead_to_the_next_checkpoint.ensures;
+  egress = c.egress_backs_no_step.ensures;
+})
