@@ -1,5 +1,8 @@
 #!/usr/bin/env python3
-"""The rows of folder_rows and what they must print, from the rules alone."""
+"""The rows of `folder_rows` and what they must print, from the rules alone: it shares nothing with the program.
+
+Its words: the crashes, each as PARTITIONS,FIRST,SECOND with the picks of both, and the folder for `stdin` and `stdout`. The stored
+ones are made by `python3 bench/folder_model.py "1,0,2 1,1,0 2,2,1 4,1,2" crates/folder_rows`."""
 import functools, sys
 
 # ---- the wire format
@@ -651,8 +654,7 @@ def all_rows(pairs):
     return R
 
 if __name__ == '__main__':
-    if sys.argv[1] == 'small': pairs = [(2, 0, 1)]
-    else: pairs = [tuple(int(x) for x in w.split(',')) for w in sys.argv[1].split()]
+    pairs = [tuple(int(x) for x in w.split(',')) for w in sys.argv[1].split()]
     R = all_rows(pairs)
     with open(sys.argv[2] + '/stdin', 'w') as i, open(sys.argv[2] + '/stdout', 'w') as o:
         for row in R:

@@ -15,6 +15,7 @@ const PARTITION: u32 = 0;
 
 /// How many addresses have a state; their ids have three digits.
 const ADDRESSES: u32 = 97;
+
 const FIRST_ID: u32 = 100;
 
 /// How many bytes an answer has, a cell and what is given to an egress.

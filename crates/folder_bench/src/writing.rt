@@ -7,7 +7,7 @@ ghost use Rattle.snapshot_files.specs.Usable.{AreAllPut, has_letters, has_piece,
 
 use crate::content::{JOB, mark, piece_of_entries, piece_of_letters};
 use crate::failure::Failure;
-use folder_form::{Home, Mark, owns_piece, shape_in};
+use folder_form::{Home, Mark, owns_letters, owns_piece, shape_in};
 use piece_messages::{Piece, encode_piece};
 use proto_wire::{List, Text};
 use run_record::{Entry, Step};
@@ -87,6 +87,19 @@ fn put(
     requires usable { IsFalse store.old.spent }
     ensures usable { OnOk result (IsFalse store.new.spent) }
 {
+    put_piece(alloc, disk, store, piece)?;
+    put_no_letters(alloc, disk, store, piece.partition)
+}
+
+fn put_piece(
+    alloc: Global,
+    disk: &mut FolderDisk<&HostRuntime>,
+    store: &mut Store,
+    piece: &Piece,
+) -> Result<(), Failure>
+    requires usable { IsFalse store.old.spent }
+    ensures usable { OnOk result (IsFalse store.new.spent) }
+{
     let home = Home {
         partitions: store.shape().partitions,
         partition: piece.partition,
@@ -96,7 +109,28 @@ fn put(
         return Err(Failure::Words);
     }
     store.put_piece(disk, piece)?;
-    store.put_feedback(disk, home.partition, &List::new(alloc))?;
+    Ok(())
+}
+
+/// Puts no letters for a partition.
+fn put_no_letters(
+    alloc: Global,
+    disk: &mut FolderDisk<&HostRuntime>,
+    store: &mut Store,
+    partition: u32,
+) -> Result<(), Failure>
+    requires usable { IsFalse store.old.spent }
+    ensures usable { OnOk result (IsFalse store.new.spent) }
+{
+    let letters = List::new(alloc);
+    let home = Home {
+        partitions: store.shape().partitions,
+        partition,
+    };
+    if !owns_letters(home, letters.as_slice()) || partition >= home.partitions {
+        return Err(Failure::Words);
+    }
+    store.put_feedback(disk, partition, &letters)?;
     Ok(())
 }
 
