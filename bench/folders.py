@@ -7,8 +7,7 @@ import shutil
 import subprocess
 import sys
 import tempfile
-
-from timed import timed
+import time
 
 ENTRIES, CHECKPOINTS, MOST_RATIO = 1000, (10, 100, 1000), 11
 # Letters of a checkpoint, and the bytes of each one's argument.
@@ -24,10 +23,33 @@ def folder_of(program, words):
     return folder, line.split()
 
 
+def peak_of(child):
+    """The most memory in MiB that a process had so far, 0 where it has ended. What `wait4` says of it counts this program's own
+    memory too, since that was the child's before it became another program."""
+    with open(f"/proc/{child}/status", encoding="ascii") as lines:
+        for line in lines:
+            if line.startswith("VmHWM:"):
+                return int(line.split()[1]) / 1024
+    return 0
+
+
+def run_of(program, words):
+    """Processor seconds and peak memory in MiB of one run; the memory is asked for all the time."""
+    child = subprocess.Popen([program, *words], stdout=subprocess.DEVNULL)
+    peak = 0
+    while os.waitid(os.P_PID, child.pid, os.WEXITED | os.WNOHANG | os.WNOWAIT) is None:
+        peak = max(peak, peak_of(child.pid))
+        time.sleep(0.0002)
+    _, status, used = os.wait4(child.pid, 0)
+    if status != 0:
+        sys.exit(f"bench: {program} {' '.join(words)} ended with {status}")
+    return used.ru_utime + used.ru_stime, peak
+
+
 def best_of(program, work, folder, runs):
-    """The least processor seconds and peak memory in MiB of a work on a folder."""
-    took = [timed(program, [work, folder], os.devnull) for _ in range(runs)]
-    return min(one[0] for one in took), min(one[2] for one in took)
+    """The least processor seconds of a work on a folder, and the most memory in MiB."""
+    took = [run_of(program, [work, folder]) for _ in range(runs)]
+    return min(one[0] for one in took), max(one[1] for one in took)
 
 
 def bytes_in(folder):
@@ -35,48 +57,44 @@ def bytes_in(folder):
 
 
 def growing(program, runs):
-    """Folders of ever more checkpoints. Gives the peak memory of a folder that has none."""
-    folder, _ = folder_of(program, ("make", 0, 0))
-    _, bare = best_of(program, "open", folder, runs)
-    shutil.rmtree(folder)
+    """Folders of ever more checkpoints."""
     before = None
     for checkpoints in CHECKPOINTS:
         folder, _ = folder_of(program, ("make", checkpoints, ENTRIES))
         size = bytes_in(folder) / (1 << 20)
         best = {work: best_of(program, work, folder, runs) for work in WORKS}
         shutil.rmtree(folder)
-        text = f"{checkpoints} checkpoints of {ENTRIES} entries, {size:.1f} MiB:"
+        text = []
         for work in WORKS:
-            text += f" {work} {best[work][0]:.3f} s, {best[work][1]:.0f} MiB"
-            if before:
-                text += f", {best[work][0] / before[work][0]:.1f} times as long"
-            text += ";"
-        print(text[:-1] + (f" (at most {MOST_RATIO} is wanted)" if before else ""), flush=True)
+            seconds, peak = best[work]
+            ratio = f", {seconds / before[work][0]:.1f} times as long" if before else ""
+            text.append(f" {work} {seconds:.3f} s, {peak:.0f} MiB{ratio}")
+        print(f"{checkpoints} checkpoints of {ENTRIES} entries, {size:.1f} MiB:{';'.join(text)}"
+              + (f" (at most {MOST_RATIO} is wanted)" if before else ""), flush=True)
         before = best
-    return bare
 
 
-def large(program, runs, letters, size, bare):
+def large(program, runs, letters, size):
     """A checkpoint of many letters: completed, opened and loaded."""
-    puts, completions = [], []
+    puts, completions, opened, loaded = [], [], [], []
     for _ in range(runs):
         folder, words = folder_of(program, ("large", letters, size))
-        puts.append(int(words[6]) / 1e9)
-        completions.append(int(words[8]) / 1e9)
-        _, opened = best_of(program, "open", folder, 1)
-        seconds, loaded = best_of(program, "load", folder, 1)
+        puts.append(int(words[6]) / 1e6)
+        completions.append(int(words[8]) / 1e6)
+        opened.append(best_of(program, "open", folder, 1))
+        loaded.append(best_of(program, "load", folder, 1))
         shutil.rmtree(folder)
-    piece = int(words[4]) / (1 << 20)
-    print(f"a checkpoint of {letters} letters of {size} bytes, {piece:.1f} MiB: put in {min(puts):.3f} s, completed in {min(completions):.3f} s, "
-          f"opened with {opened - bare:.1f} MiB, opened and loaded in {seconds:.3f} s with {loaded - bare:.1f} MiB, "
-          f"{(loaded - bare) / piece:.2f} times the piece (at most {MOST_MEMORY} is wanted)", flush=True)
+    piece, peak = int(words[4]) / (1 << 20), max(one[1] for one in loaded)
+    print(f"a checkpoint of {letters} letters of {size} bytes, {piece:.1f} MiB: put in {min(puts):.1f} ms, completed in {min(completions):.1f} ms; "
+          f"opened in {min(opened)[0]:.3f} s, opened and loaded in {min(loaded)[0]:.3f} s with {peak:.0f} MiB, "
+          f"{peak / piece:.2f} times the piece (at most {MOST_MEMORY} is wanted)", flush=True)
 
 
 def main():
     program, runs = os.path.abspath(sys.argv[1]), int(sys.argv[2])
-    bare = growing(program, runs)
+    growing(program, runs)
     for letters, size in LARGE:
-        large(program, runs, letters, size, bare)
+        large(program, runs, letters, size)
 
 
 main()
