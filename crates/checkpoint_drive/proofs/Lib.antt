@@ -1,2 +1,10 @@
 pub mod JobShape
 pub mod GoodLegs
+pub mod Growing
+pub mod Stops
+pub mod Loops
+pub mod Stored
+pub mod Whole
+pub mod Openings
+pub mod OnePiece
+pub mod Saved

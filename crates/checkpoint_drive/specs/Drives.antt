@@ -11,7 +11,7 @@ use Rattle.folder_form.specs.declared.mark.Mark.{Mark}
 use Rattle.folder_form.specs.Folders.{Part, Checkpoint, takes}
 use Rattle.partition_core.specs.Work.{Work, is_idle, is_empty}
 use Rattle.statefun_driver.specs.Seen.{Event, Seen}
-use Rattle.statefun_driver.specs.Turns.{Plan, Control, Origin, Asking, first_control, origin_of}
+use Rattle.statefun_driver.specs.Turns.{Plan, Control, Origin, Asking, first_control, is_done, origin_of}
 use Rattle.statefun_driver.specs.Traces.{Trace}
 use Rattle.checkpoint_drive.specs.declared.options.Options.{Options}
 
@@ -120,4 +120,4 @@ completed_by (leg ∷ legs) = option_to_list leg.taken ++ completed_by legs
 
 -- the run ends here: it drains, no split may have more records, nothing is left, and all is in a checkpoint
 abbrev pub is_over : Options → Control → Rest → Bool
-is_over options control rest = options.drain && not control.left && is_idle control.work && is_held rest.newest rest.control
+is_over options control rest = options.drain && is_done control && is_held rest.newest rest.control

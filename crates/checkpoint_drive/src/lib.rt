@@ -1,10 +1,19 @@
 //! Runs over a folder of checkpoints: what their legs and the checkpoints between them come to.
 #![tactic(auto)]
 
+mod begin;
+mod checkpoint;
+mod driving;
+mod end;
 mod job;
 mod laws;
+mod legs;
+mod opening;
 mod options;
+mod run;
 
+pub use driving::drive;
+pub use end::DriveEnd;
 pub use job::folder_text;
 pub use laws::what_legs_complete_is_good;
 pub use options::Options;

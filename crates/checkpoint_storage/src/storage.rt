@@ -3,9 +3,9 @@ ghost use Rattle.std.specs.Prelude.{◌≡◌, ◌≤◌, ◌+◌, ◌⊎◌, �
 ghost use Rattle.sf_disk.specs.Moments.{Since, Becomes, WhereTold};
 ghost use Rattle.store_faults.specs.Faults.{HasStoreCause, IsNoRefusal, RefusesBy};
 ghost use Rattle.store_faults.specs.declared.fault.StoreFault.TheVariants.{NotAStore};
-ghost use Rattle.folder_form.specs.Shapes.{partitions_in};
+ghost use Rattle.folder_form.specs.Shapes.{partitions_in, shape_in};
 ghost use Rattle.folder_form.specs.Folders.{Contents, loaded_of, with_leg};
-ghost use Rattle.snapshot_files.specs.Reading.{IsUntold};
+ghost use Rattle.snapshot_files.specs.Reading.{FitsShape, IsUntold};
 ghost use Rattle.snapshot_files.specs.Stores.{newest};
 ghost use Rattle.egress_commit.specs.Epochs.{Epoch};
 ghost use Rattle.egress_commit.specs.Outlets.{last_epoch};
@@ -45,6 +45,7 @@ impl CheckpointStorage {
         ensures opened { IfOk result (λ storage. Becomes (D.moments disk.old) (D.moments disk.new) (IsOpened storage job.now)) }
         ensures text { IfOk result (λ storage. storage.store.text ≡ job.now) }
         ensures partitions { IfOk result (λ storage. storage.store.shape.partitions ≡ partitions) }
+        ensures shape { IfOk result (λ storage. shape_in job.now ≡ Some storage.store.shape) }
         ensures usable { IfOk result (λ storage. IsFalse storage.store.spent) }
         ensures open { IfOk result (λ storage. IsFalse storage.outlet.spent) }
         ensures refuses { IfErr result (RefusesStorage job.now (D.moments disk.old)) }
@@ -82,6 +83,7 @@ impl CheckpointStorage {
         requires usable { IsFalse self.now.store.spent }
         requires is_known { IsKnown self.now (D.moments disk.old) }
         ensures loaded { IfOk result (λ loaded. WhereTold (D.moments disk.old) (λ now. (contents : Contents) (epochs : List Epoch) → IsStorage self.now contents epochs now → loaded ≡ loaded_of contents)) }
+        ensures fits { IfOk result (FitsShape self.now.store.shape) }
         ensures refuses { IfErr result (IsUntold (D.moments disk.old)) }
         ensures same { D.moments disk.new ≡ D.moments disk.old }
         ensures cause { HasStoreCause (D.faults disk.old) (D.faults disk.new) result }

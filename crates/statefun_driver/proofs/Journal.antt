@@ -22,9 +22,12 @@ object_one (Start call url request) o p h = ap (λ (x : Seen). x.objects) h.othe
 object_one (Poll outcome) o p h = ap (λ (x : Seen). x.objects) h.others
 object_one (Fails by) o p h = ap (λ (x : Seen). x.objects) h.others
 
+pub objects_along : (plan : Plan) (c : Control) (o : Seen) (events : List Event) (d : Control) (q : Seen) → Trace plan c o events d q → q.objects ≡ o.objects
+objects_along plan c o events d q t =
+    along (turns plan) (λ c p. p.objects ≡ o.objects) (λ c p event r asked heard k. object_one event p r heard ∙ k) c o events d q t refl
+
 pub objects_stay : (plan : Plan) (c : Control) (o : Seen) (entries : List Entry) (end : End) (q : Seen) → Ends plan c o entries end q → q.objects ≡ o.objects
-objects_stay plan c o entries end q h =
-    along (turns plan) (λ c p. p.objects ≡ o.objects) (λ c p event r asked heard k. object_one event p r heard ∙ k) c o (h.leads).0 h.last q (h.leads).1 refl
+objects_stay plan c o entries end q h = objects_along plan c o (h.leads).0 h.last q (h.leads).1
 
 -- ---- the journal
 

@@ -36,6 +36,7 @@ impl Job {
     /// The job of these routes, whose turns are driven one by one.
     pub fn driven(routes: Routes) -> Job
         ensures routes { result.routes ≡ routes }
+        ensures turns { result.turns ≡ 0 }
         ensures rests { result.rests ≡ true }
     {
         let splits = splits_in(routes.module().ingresses.as_slice());

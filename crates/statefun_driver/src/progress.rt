@@ -3,6 +3,7 @@ ghost use Rattle.std.specs.Prelude.{◌≡◌, ◌<◌, ◌≤◌, ◌^◌, ◌+
 ghost use Rattle.run_record.specs.declared.entry.Step.TheVariants.{Batch as IsBatch};
 ghost use Rattle.run_record.specs.Egress.{records_of_reply};
 ghost use Rattle.partition_core.specs.Kept.{work_of};
+ghost use Rattle.partition_core.specs.Work.{is_empty};
 ghost use Rattle.sf_outside.specs.declared.ingress.IngressRecord.{IngressRecord};
 ghost use Rattle.statefun_driver.specs.Runs.{AreModest};
 ghost use Rattle.statefun_driver.specs.Traces.{Ends};
@@ -318,6 +319,14 @@ impl Progress {
         !self.left && self.partition.is_idle()
     }
 
+    /// Whether no step was recorded since the start or the last cut.
+    #[tactic(auto, unfolding(crate::specs::Work::here))]
+    pub fn is_cut(&self) -> bool
+        ensures { result ≡ is_empty (here self.now).entries }
+    {
+        is_empty(self.entries.as_slice())
+    }
+
     /// Takes out what was recorded since the start or the last cut: turns begin anew behind those that were made. What an `Err`
     /// leaves of the record is gone.
     #[tactic(auto, unfolding(crate::specs::Work::here, crate::specs::Work::splits_of))]
@@ -371,6 +380,16 @@ fn counts_of(alloc: Global, taken: &[u64], splits: u32) -> Mem<Vec<u64>>
     let mut counts = taken.to_vec(alloc)?;
     counts.resize(splits as usize, 0)?;
     Ok(counts)
+}
+
+/// Whether there are no entries.
+fn is_empty(entries: &[Entry]) -> bool
+    ensures { result ≡ is_empty entries.now }
+{
+    match entries {
+        [] => true,
+        [_, ..] => false,
+    }
 }
 
 /// How many bytes a record's key and value have together.
