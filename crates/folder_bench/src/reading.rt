@@ -3,7 +3,8 @@ ghost use Rattle.std.specs.Prelude.{IfOk, IsFalse};
 
 use crate::failure::Failure;
 use folder_form::Loaded;
-use proto_wire::Text;
+use proto_wire::{Mem, Text};
+use read_ahead::ReadAhead;
 use sf_disk::FolderDisk;
 use snapshot_files::Store;
 use std::alloc::Global;
@@ -11,7 +12,7 @@ use std::alloc::Global;
 /// Opens a folder.
 pub(crate) fn open(rt: &HostRuntime, folder: &str) -> Result<(), Failure> {
     let alloc = rt.alloc();
-    let mut disk = FolderDisk::new(alloc, rt, Text::copy_of(alloc, folder)?);
+    let mut disk = over(rt, folder)?;
     let store = kept(alloc, &mut disk)?;
     let newest = store.newest();
     let leg = store.stored_leg();
@@ -22,7 +23,7 @@ pub(crate) fn open(rt: &HostRuntime, folder: &str) -> Result<(), Failure> {
 /// Opens a folder, and loads its newest checkpoint.
 pub(crate) fn load(rt: &HostRuntime, folder: &str) -> Result<(), Failure> {
     let alloc = rt.alloc();
-    let mut disk = FolderDisk::new(alloc, rt, Text::copy_of(alloc, folder)?);
+    let mut disk = over(rt, folder)?;
     let store = kept(alloc, &mut disk)?;
     let loaded = store.load(&mut disk)?;
     let number = loaded.number;
@@ -34,15 +35,22 @@ pub(crate) fn load(rt: &HostRuntime, folder: &str) -> Result<(), Failure> {
 /// Opens a folder, and reads the entries of all its checkpoints.
 pub(crate) fn read(rt: &HostRuntime, folder: &str) -> Result<(), Failure> {
     let alloc = rt.alloc();
-    let mut disk = FolderDisk::new(alloc, rt, Text::copy_of(alloc, folder)?);
+    let mut disk = over(rt, folder)?;
     let store = kept(alloc, &mut disk)?;
     let entries = store.read_entries(&mut disk)?.len();
     println!(rt; "read entries {entries}")?;
     Ok(())
 }
 
+/// A disk over a folder, which is read ahead.
+fn over<'a>(rt: &'a HostRuntime, folder: &str) -> Mem<ReadAhead<FolderDisk<&'a HostRuntime>>> {
+    let alloc = rt.alloc();
+    let path = Text::copy_of(alloc, folder)?;
+    Ok(ReadAhead::over(alloc, FolderDisk::new(alloc, rt, path)))
+}
+
 /// Opens a folder that has a job.
-fn kept(alloc: Global, disk: &mut FolderDisk<&HostRuntime>) -> Result<Store, Failure>
+fn kept(alloc: Global, disk: &mut ReadAhead<FolderDisk<&HostRuntime>>) -> Result<Store, Failure>
     ensures { IfOk result (λ store. IsFalse store.spent) }
 {
     match Store::open_kept(alloc, disk)? {

@@ -1,5 +1,5 @@
 //! Opening a folder.
-ghost use Rattle.std.specs.Prelude.{◌≡◌, ◌≤◌, ℕ, Some, IfOk, IfErr, IsFalse, MatchOption};
+ghost use Rattle.std.specs.Prelude.{◌≡◌, ◌≤◌, ℕ, Some, IfOk, IfErr, IfSome, IsFalse, MatchOption};
 ghost use Rattle.sf_disk.specs.Moments.{Since, Becomes};
 ghost use Rattle.store_faults.specs.Faults.{HasStoreCause};
 ghost use Rattle.folder_form.specs.Shapes.{partitions_in, shape_in};
@@ -45,6 +45,7 @@ impl Store {
         ensures meanwhile { Since (D.moments disk.old) (D.moments disk.new) OpensKept }
         ensures opened { IfOk result (λ found. MatchOption found (Becomes (D.moments disk.old) (D.moments disk.new) IsNew)
             (λ store. Becomes (D.moments disk.old) (D.moments disk.new) (IsOpenedKept store))) }
+        ensures usable { IfOk result (λ found. IfSome found (λ store. IsFalse store.spent)) }
         ensures refuses { IfErr result (RefusesKept (D.moments disk.old)) }
         ensures cause { HasStoreCause (D.faults disk.old) (D.faults disk.new) result }
     {

@@ -1,0 +1,5 @@
+pub mod AskedOf
+pub mod Found
+pub mod OtherState
+pub mod Ending
+pub mod Auditing

@@ -1,0 +1,5 @@
+pub mod Words
+pub mod Ends
+pub mod Stored
+pub mod Judged
+pub mod Audited
