@@ -8,3 +8,4 @@ pub mod Whole
 pub mod Openings
 pub mod OnePiece
 pub mod Saved
+pub mod OneTurn
