@@ -8,4 +8,5 @@ pub mod Whole
 pub mod Openings
 pub mod OnePiece
 pub mod Saved
+pub mod Closing
 pub mod OneTurn

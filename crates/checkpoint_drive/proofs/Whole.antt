@@ -74,7 +74,7 @@ rest_is : (rest : Rest) (m : Module) (origin : Origin) (number : ℕ) → rest.o
 rest_is rest m origin number is_origin control legs is_newest unheld = λ i. record { origin = is_origin i; control = control i; legs = legs i; newest = is_newest i; unheld = unheld i }
 
 -- turns that are driven wait for the next moment
-first_is : (plan : Plan) (start : Origin) → plan.rests ≡ true → first_control plan start ≡ rested start
+pub first_is : (plan : Plan) (start : Origin) → plan.rests ≡ true → first_control plan start ≡ rested start
 first_is plan start rests = by plan.rests (nat_lt start.turn plan.turns) rests
   where
     by : (r t : Bool) → r ≡ true → at (cond (r || t) Asking (Stops (TurnsEnd (taken_in [])))) (rested start) ≡ rested start

@@ -13,7 +13,7 @@ ghost use Rattle.checkpoint_drive.specs.OneLeg.{Closes, HasLegCause, IsSame, Mak
 use crate::DriveEnd;
 use crate::run::Run;
 use sf_disk::Disk;
-use statefun_driver::Outside;
+use statefun_driver::{Outside, what_turns_come_to};
 use store_faults::StoreFault;
 
 impl Run {
@@ -68,10 +68,14 @@ impl Run {
         ensures same { IsSame self.old self.new }
         ensures cause { HasLegCause (D.faults disk.old) (D.faults disk.new) result }
     {
+        what_turns_come_to();
+        let holds = self.legs < self.most;
+        prove!(holds);
         let asked = self.is_asked();
         let done = self.turn(outside)?;
         self.close(asked, disk)?;
-        Ok(self.options.drain && done && self.is_held())
+        let held = self.is_held();
+        Ok(self.options.drain && done && held)
     }
 
     /// Makes a turn. `true` where no split may have more records, and nothing is left to do.
@@ -91,7 +95,7 @@ impl Run {
 
     /// Behind a turn: saves a checkpoint where it is asked for, and counts the leg.
     fn close<D: Disk>(&mut self, asked: bool, disk: &mut D) -> Result<(), StoreFault>
-        requires ready { IsReady self.old }
+        requires ready { IsReady (counted self.old) }
         requires more { self.old.legs < self.old.most }
         requires numbered { newest self.old.storage.store < (here self.old.progress).turn }
         requires held { IsHeld (here self.old.progress).work (here self.old.progress).moment }
@@ -104,8 +108,27 @@ impl Run {
         ensures cause { HasStoreCause (D.faults disk.old) (D.faults disk.new) result }
     {
         if asked {
-            self.save_checkpoint(disk)?;
+            return self.close_saving(disk);
         }
+        self.count_leg();
+        Ok(())
+    }
+
+    /// Saves a checkpoint, and counts the leg.
+    fn close_saving<D: Disk>(&mut self, disk: &mut D) -> Result<(), StoreFault>
+        requires ready { IsReady (counted self.old) }
+        requires more { self.old.legs < self.old.most }
+        requires numbered { newest self.old.storage.store < (here self.old.progress).turn }
+        requires held { IsHeld (here self.old.progress).work (here self.old.progress).moment }
+        requires is_known { IsKnown self.old.storage (D.moments disk.old) }
+        ensures closes { (origin : Origin) → Closes self.old self.new origin true (D.moments disk.old) (D.moments disk.new) result }
+        ensures ready { OnOk result (IsReady self.new) }
+        ensures counted { OnOk result (self.new.legs ≡ self.old.legs + 1) }
+        ensures is_known { OnOk result (IsKnown self.new.storage (D.moments disk.new)) }
+        ensures same { IsSame self.old self.new }
+        ensures cause { HasStoreCause (D.faults disk.old) (D.faults disk.new) result }
+    {
+        self.save_checkpoint(disk)?;
         self.count_leg();
         Ok(())
     }
