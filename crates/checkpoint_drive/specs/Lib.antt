@@ -6,3 +6,4 @@ pub mod Begins
 pub mod Driven
 pub mod OneLeg
 pub mod Starts
+pub mod Good
