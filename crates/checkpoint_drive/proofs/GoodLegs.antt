@@ -60,7 +60,7 @@ pub lists_grow : (plan : Plan) (c d : Control) (o p : Seen) (events : List Event
 lists_grow plan c d o p [] t = subst (λ (x : Seen). Grows o.lists x.lists) t.1 (grows_itself o.lists)
 lists_grow plan c d o p (event ∷ events) t = grows_then o.lists (t.0).lists p.lists (grows_one event o t.0 t.2) (lists_grow plan (goes_on plan c.phase c event) d t.0 p events t.3)
 
-told_then : (a b : Option Lists) (told : Lists) → a ≡ Some told → Grows a b → (now : Lists) × (b ≡ Some now) × GrowTo told now
+pub told_then : (a b : Option Lists) (told : Lists) → a ≡ Some told → Grows a b → (now : Lists) × (b ≡ Some now) × GrowTo told now
 told_then (Some a) (Some b) told is g = (b, refl, let same : a ≡ told = cc in subst (λ (x : Lists). GrowTo x b) same g)
 told_then (Some a) None told is g = absurd g
 told_then None b told is g = absurd cc
@@ -75,18 +75,18 @@ extends (Starts call url request) o p h = h.exchanges
 extends (Poll outcome) o p h = h.exchanges
 extends (Fails by) o p h = h.exchanges
 
-exchanges_grow : (plan : Plan) (c d : Control) (o p : Seen) (events : List Event) → Trace plan c o events d p → Extends o.exchanges p.exchanges
+pub exchanges_grow : (plan : Plan) (c d : Control) (o p : Seen) (events : List Event) → Trace plan c o events d p → Extends o.exchanges p.exchanges
 exchanges_grow plan c d o p [] t = subst (λ (x : Seen). Extends o.exchanges x.exchanges) t.1 (Extends-none o.exchanges)
 exchanges_grow plan c d o p (event ∷ events) t = Extends-then o.exchanges (t.0).exchanges p.exchanges (extends event o t.0 t.2) (exchanges_grow plan (goes_on plan c.phase c event) d t.0 p events t.3)
 
-behind_others : (others old new : List Exchange) → Extends old new → Extends (others ++ old) (others ++ new)
+pub behind_others : (others old new : List Exchange) → Extends old new → Extends (others ++ old) (others ++ new)
 behind_others others old new e = (e.0, ap (λ (l : List Exchange). others ++ l) e.1 ∙ sym (append_assoc others old e.0))
 
 some_of : {X : Type 0} {P : Type 0} (o : Option X) → P → IfSome o (λ _. P)
 some_of None p = tt
 some_of (Some x) p = p
 
-some_then : {X : Type 0} {P Q : X → Type 0} (o : Option X) → ((x : X) → P x → Q x) → IfSome o P → IfSome o Q
+pub some_then : {X : Type 0} {P Q : X → Type 0} (o : Option X) → ((x : X) → P x → Q x) → IfSome o P → IfSome o Q
 some_then None f h = h
 some_then (Some x) f h = f x h
 
@@ -150,7 +150,7 @@ in_time moment (Due address at) h = h
 front_then : (a b c : List Entry) → IsFront a b → IsFront b c → IsFront a c
 front_then a b c first second = (first.0 ++ second.0, second.1 ∙ ap (λ (l : List Entry). l ++ second.0) first.1 ∙ append_assoc a first.0 second.0)
 
-told_some : {X : Type 0} (o : Option X) (x : X) (P : X → Type 0) → o ≡ Some x → IfSome o P → P x
+pub told_some : {X : Type 0} (o : Option X) (x : X) (P : X → Type 0) → o ≡ Some x → IfSome o P → P x
 told_some None x P is h = absurd cc
 told_some (Some y) x P is h = let same : y ≡ x = cc in subst P same h
 
@@ -165,6 +165,7 @@ module _ (laws : Laws) (plan : Plan) (options : Options) (routable : IsTrue (is_
     pub trace : Trace plan (first_control plan rest.origin) from events rest.control now
     pub fresh : IfSome from.journal (AreUpTo rest.origin.turn)
     pub lists : now.lists ≡ Some told
+    pub since : Grows root.lists from.lists
     pub good : IsGood plan.routes told contents
     pub grown : IsFront (record_of first) (record_of contents)
     -- a link that tells goes on to do so
@@ -200,6 +201,7 @@ module _ (laws : Laws) (plan : Plan) (options : Options) (routable : IsTrue (is_
       trace = joined;
       fresh = h.fresh;
       lists = then_told.1;
+      since = h.since;
       good = still_good;
       grown = h.grown;
       tells = h.tells;
@@ -304,6 +306,7 @@ module _ (laws : Laws) (plan : Plan) (options : Options) (routable : IsTrue (is_
         trace = (refl, refl);
         fresh = journal_next _ h.from.journal refl (λ done at. (answers done at).journal);
         lists = then_told.1;
+        since = grows_then root.lists h.from.lists next.lists h.since (lists_grow plan (first_control plan rest.origin) leg.control h.from next (h.events ++ leg.events) joined);
         good = have.good;
         grown = front_then (record_of first) (record_of contents) (record_of grown_by) h.grown (entries, have.behind);
         tells = tells_next;
@@ -327,8 +330,27 @@ module _ (laws : Laws) (plan : Plan) (options : Options) (routable : IsTrue (is_
 
 -- ---- from the beginning
 
-one_later : (o : Option Lists) (a b : Lists) → o ≡ Some a → o ≡ Some b → a ≡ b
+pub one_later : (o : Option Lists) (a b : Lists) → o ≡ Some a → o ≡ Some b → a ≡ b
 one_later o a b is_a is_b = cc
+
+-- where the first leg begins
+module _ (laws : Laws) (plan : Plan) (options : Options) (contents : Contents) (origin : Origin) (newest : ℕ) (told : Lists) (before : Seen)
+    (routable : IsTrue (is_routable plan.routes)) (modest : AreModest plan.routes.endpoints) (lists : before.lists ≡ Some told)
+    (good : IsGood plan.routes told contents) (begins : BeginsAt contents origin) (fresh : IfSome before.journal (AreUpTo origin.turn)) where
+  pub at_first : (others : List Exchange) → IsHere laws plan options routable modest others told contents before contents (first_rest plan origin newest) told before
+  at_first others = record {
+    begun = begins;
+    from = before;
+    events = [];
+    trace = (refl, refl);
+    fresh = fresh;
+    lists = lists;
+    since = grows_itself before.lists;
+    good = good;
+    grown = ([], sym (append-nil (record_of contents)));
+    tells = λ done at. (done, at);
+    backed = some_of before.journal (λ b. backed_over others (others ++ before.exchanges) plan.routes told first_state (record_of contents) (λ x at. there_before others before.exchanges x at) b);
+  }
 
 pub legs_complete_what_is_good : Laws → LegsCompleteWhatIsGood
 legs_complete_what_is_good laws plan options contents origin newest told before end legs last routable modest lists good begins fresh are = record {
@@ -339,22 +361,10 @@ legs_complete_what_is_good laws plan options contents origin newest told before 
   backed = λ others. same_later others;
 }
   where
-    here : (others : List Exchange) → IsHere laws plan options routable modest others told contents before contents (first_rest plan origin newest) told before
-    here others = record {
-      begun = begins;
-      from = before;
-      events = [];
-      trace = (refl, refl);
-      fresh = fresh;
-      lists = lists;
-      good = good;
-      grown = ([], sym (append-nil (record_of contents)));
-      tells = λ done at. (done, at);
-      backed = some_of before.journal (λ b. backed_over others (others ++ before.exchanges) plan.routes told first_state (record_of contents) (λ x at. there_before others before.exchanges x at) b);
-    }
-
     reached : (others : List Exchange) → (later : Lists) × IsHere laws plan options routable modest others told contents before (after_all contents legs) last later end
-    reached others = legs_lead laws plan options routable modest others told contents before contents (first_rest plan origin newest) last told before end legs (here others) are
+    reached others =
+        legs_lead laws plan options routable modest others told contents before contents (first_rest plan origin newest) last told before end legs
+        (at_first laws plan options contents origin newest told before routable modest lists good begins fresh others) are
 
     same_later : (others : List Exchange) → IfSome before.journal (λ done. IsBackedBy others plan.routes told contents → IsBackedBy (others ++ end.exchanges) plan.routes (reached []).0 (after_all contents legs))
     same_later others = subst (λ (l : Lists). IfSome before.journal (λ done. IsBackedBy others plan.routes told contents → IsBackedBy (others ++ end.exchanges) plan.routes l (after_all contents legs))) (one_later end.lists (reached others).0 (reached []).0 ((reached others).1).lists ((reached []).1).lists) (((reached others).1).backed)

@@ -10,3 +10,9 @@ pub mod OnePiece
 pub mod Saved
 pub mod Closing
 pub mod OneTurn
+pub mod Fronts
+pub mod Committed
+pub mod GoodRuns
+pub mod GoodEnds
+pub mod Keeping
+pub mod LongLives

@@ -1,9 +1,11 @@
-//! What legs come to. The function does nothing but call such laws of lower crates: its contract is a law.
+//! What legs and runs come to. The functions do nothing but call such laws of lower crates: their contracts are laws.
 ghost use Rattle.checkpoint_drive.specs.Laws.{LegsCompleteWhatIsGood};
+ghost use Rattle.checkpoint_drive.specs.Good.{RunsKeepGood};
 
 use checkpoint_state::{
-    a_checkpoint_behind_a_good_record_is_good, backed_records_go_on, egress_backs_no_step,
-    entries_lead_to_the_next_checkpoint, longer_lists_keep_what_is_good,
+    a_checkpoint_behind_a_good_record_is_good, a_later_leg_keeps_what_is_good,
+    backed_records_go_on, egress_backs_no_step, entries_lead_to_the_next_checkpoint,
+    longer_lists_keep_what_is_good, what_is_stored_is_a_partition,
 };
 use statefun_driver::what_turns_come_to;
 
@@ -18,4 +20,19 @@ pub fn what_legs_complete_is_good()
     backed_records_go_on();
     entries_lead_to_the_next_checkpoint();
     egress_backs_no_step();
+}
+
+/// A run over a good folder keeps it good: whatever a crash leaves at any moment of it is good, and has all checkpoints, entries and
+/// committed egress that stood there when the run began. Where the run is over, nothing is left to do.
+pub fn what_a_run_leaves_is_good()
+    ensures { RunsKeepGood }
+{
+    what_turns_come_to();
+    a_checkpoint_behind_a_good_record_is_good();
+    longer_lists_keep_what_is_good();
+    backed_records_go_on();
+    entries_lead_to_the_next_checkpoint();
+    egress_backs_no_step();
+    a_later_leg_keeps_what_is_good();
+    what_is_stored_is_a_partition();
 }

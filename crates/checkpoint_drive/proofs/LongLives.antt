@@ -1,0 +1,157 @@
+-- A folder stays good over many runs, whatever crashes came between them.
+use mathlib.Core.Path.{fun_ext}
+use Rattle.std.proofs.Common.{◌≡◌, ℕ, List, [], ◌∷◌, ◌++◌, Option, Some, None, IfSome, refl, sym, ◌∙◌, ap, subst, arith, append_assoc, append-nil}
+use Rattle.std.specs.Prelude.{IsTrue, Contains}
+use Rattle.sf_outside.specs.Splits.{Lists, GrowTo}
+use Rattle.sf_outside.specs.Answers.{Extends, Extends-none}
+use Rattle.sf_outside.specs.declared.call.Call.{Call}
+use Rattle.sf_outside.specs.declared.call.Exchange.{Exchange}
+use Rattle.sf_outside.specs.declared.call.LinkEvent.{LinkEvent}
+use Rattle.sf_outside.specs.declared.call.LinkEvent.TheVariants.{Started}
+use Rattle.sf_disk.specs.Moments.{Moment, Folder, IsImage}
+use Rattle.address_routing.specs.declared.module.Module.{Module}
+use Rattle.address_routing.specs.Routing.{is_routable}
+use Rattle.run_record.specs.declared.entry.Entry.{Entry}
+use Rattle.run_record.specs.Machine.{first_state}
+use Rattle.run_record.specs.Backed.{AreBacked}
+use Rattle.folder_form.specs.Folders.{Contents, record_of}
+use Rattle.snapshot_files.specs.Opening.{seen}
+use Rattle.egress_commit.specs.Epochs.{Epoch}
+use Rattle.checkpoint_storage.specs.Folders.{Stands}
+use Rattle.checkpoint_state.specs.Meaning.{state_in, IsGood}
+use Rattle.checkpoint_state.specs.Laws.{BackingGrows, ListsKeepGood}
+use Rattle.statefun_driver.specs.Traces.{IsFront}
+use Rattle.statefun_driver.specs.Runs.{AreModest}
+use Rattle.statefun_driver.specs.Stretches.{AreUpTo}
+use Rattle.checkpoint_drive.specs.Laws.{IsBackedBy}
+use Rattle.checkpoint_drive.specs.Good.{AreKept, BeginsGood, HasGood, HasGrown, RunsKeepGood, StaysGood}
+use Rattle.checkpoint_drive.specs.Lives.{AreLives, IsBorn, IsLife, Life, LivesKeepGood, exchanged_in}
+use Rattle.checkpoint_drive.proofs.Whole.{stands_once}
+
+-- what is known of runs, and of contents
+pub record Laws : Type 0 where
+  pub runs : RunsKeepGood
+  pub lists : ListsKeepGood
+  pub backing : BackingGrows
+
+-- ---- growing
+
+front_then : {A : Type 0} (a b c : List A) → IsFront a b → IsFront b c → IsFront a c
+front_then {A} a b c first second = (first.0 ++ second.0, second.1 ∙ ap (λ (l : List A). l ++ second.0) first.1 ∙ append_assoc a first.0 second.0)
+
+kept_then : (a b c : Contents) (x y z : List Epoch) → AreKept a x b y → AreKept b y c z → AreKept a x c z
+kept_then a b c x y z first second = record {
+  checkpoints = front_then a.checkpoints b.checkpoints c.checkpoints first.checkpoints second.checkpoints;
+  entries = front_then (record_of a) (record_of b) (record_of c) first.entries second.entries;
+  egress = front_then x y z first.egress second.egress;
+}
+
+kept_as : (a b c : Contents) (x y z : List Epoch) → a ≡ b → x ≡ y → AreKept b y c z → AreKept a x c z
+kept_as a b c x y z same also kept = subst (λ (e : Contents). AreKept e x c z) (sym same) (subst (λ (e : List Epoch). AreKept b e c z) (sym also) kept)
+
+module _ (laws : Laws) (m : Module) (text : List ℕ) (told : Lists) (first : Folder) where
+  at_first : HasGood m text told first → HasGrown m text told told (Some []) [] first first
+  at_first g = record {
+    contents = g.contents;
+    epochs = g.epochs;
+    stood = g.stands;
+    now = g.contents;
+    committed = g.epochs;
+    stands = g.stands;
+    good = g.good;
+    are = g.are;
+    kept = record {
+      checkpoints = ([], sym (append-nil (g.contents).checkpoints));
+      entries = ([], sym (append-nil (record_of g.contents)));
+      egress = ([], sym (append-nil g.epochs));
+    };
+    backed = λ others b. subst (λ (l : List Exchange). AreBacked l m told first_state (record_of g.contents)) (sym (append-nil others)) b;
+  }
+
+  -- over lists that have grown
+  over_longer : (one other : Lists) (exchanges : List Exchange) (folder : Folder) → GrowTo one other → HasGrown m text told one (Some []) exchanges first folder → HasGrown m text told other (Some []) exchanges first folder
+  over_longer one other exchanges folder grow h = record {
+    contents = h.contents;
+    epochs = h.epochs;
+    stood = h.stood;
+    now = h.now;
+    committed = h.committed;
+    stands = h.stands;
+    good = laws.lists m one other h.now grow h.good;
+    are = h.are;
+    kept = h.kept;
+    backed = λ others b.
+        let all = h.good.each h.now.checkpoints [] (sym (append-nil h.now.checkpoints)) in
+        subst (AreBacked (others ++ exchanges) m other first_state) (append-nil (record_of h.now))
+        (laws.backing (others ++ exchanges) (others ++ exchanges) m one other first_state (state_in h.now) (record_of h.now) [] (Extends-none (others ++ exchanges)) grow (h.backed others b) all.replays tt);
+  }
+
+  -- and then out of that folder
+  grown_then : (one other : Lists) (exchanges more : List Exchange) (middle last : Folder)
+      → HasGrown m text told one (Some []) exchanges first middle → HasGrown m text one other (Some []) more middle last → HasGrown m text told other (Some []) (exchanges ++ more) first last
+  grown_then one other exchanges more middle last h k =
+      let once = stands_once text middle h.now k.contents h.committed k.epochs h.stands k.stood in
+      record {
+        contents = h.contents;
+        epochs = h.epochs;
+        stood = h.stood;
+        now = k.now;
+        committed = k.committed;
+        stands = k.stands;
+        good = k.good;
+        are = k.are;
+        kept = kept_then h.contents h.now k.now h.epochs h.committed k.committed h.kept (kept_as h.now k.contents k.now h.committed k.epochs k.committed once.0 once.1 k.kept);
+        backed = λ others b.
+            subst (λ (l : List Exchange). IsBackedBy l m other k.now) (append_assoc others exchanges more)
+            (k.backed (others ++ exchanges) (subst (IsBackedBy (others ++ exchanges) m one) once.0 (h.backed others b)));
+      }
+
+  good_there : (later : Lists) (exchanges : List Exchange) (folder : Folder) → HasGrown m text told later (Some []) exchanges first folder → HasGood m text later folder
+  good_there later exchanges folder h = record { contents = h.now; epochs = h.committed; stands = h.stands; good = h.good; are = h.are }
+
+-- ---- one life
+
+none_started : (leg : ℕ) → AreUpTo leg []
+none_started leg call url request there = absurd (let k = there.1 in omega (arith, k))
+
+module _ (m : Module) (text : List ℕ) (folder : Folder) (told : Lists) (life : Life) (born : IsBorn folder told life) where
+  only_image : (image : Folder) → IsImage born.first image → image ≡ folder
+  only_image image is = fun_ext (λ file. born.synced file (image file) (is file) ∙ born.reads file)
+
+  begins_good : HasGood m text born.now folder → BeginsGood m text born.now life.before born.first
+  begins_good g = record {
+    each = λ image is. subst (HasGood m text born.now) (sym (only_image image is)) g;
+    fresh = λ contents epochs stands. subst (λ (j : Option (List LinkEvent)). IfSome j (AreUpTo contents.leg)) (sym born.journal) (none_started contents.leg);
+  }
+
+module _ (laws : Laws) (m : Module) (text : List ℕ) (routable : IsTrue (is_routable m)) (modest : AreModest m.endpoints) where
+  one_later : (o : Option Lists) (a b : Lists) → o ≡ Some a → o ≡ Some b → a ≡ b
+  one_later o a b is_a is_b = cc
+
+  one_life : (folder : Folder) (told : Lists) (life : Life) (is : IsLife m text folder told life) → HasGood m text is.born.now folder
+      → HasGrown m text is.born.now is.later (Some []) life.after.exchanges folder life.left
+  one_life folder told life is good =
+      let s = laws.runs m life.options text life.old life.new life.before life.after life.end routable modest is.driven is.born.now is.born.first is.born.lists is.born.is_first
+              (begins_good m text folder told life is.born good) in
+      let l = s.left life.left is.crashed in
+      subst (λ (f : Folder). HasGrown m text is.born.now is.later (Some []) life.after.exchanges f life.left) (only_image m text folder told life is.born l.0 l.1)
+      (subst (λ (j : Option (List LinkEvent)). HasGrown m text is.born.now is.later j life.after.exchanges l.0 life.left) is.born.journal
+      (subst (λ (later : Lists). HasGrown m text is.born.now later life.before.journal life.after.exchanges l.0 life.left) (one_later life.after.lists s.later is.later s.lists is.lists) l.2))
+
+  -- ---- all of them
+
+  module _ (told : Lists) (first : Folder) where
+    lives_on : (lives : List Life) (now : Lists) (exchanges : List Exchange) (folder last : Folder) → HasGrown m text told now (Some []) exchanges first folder → AreLives m text folder now lives last
+        → (later : Lists) × HasGrown m text told later (Some []) (exchanges ++ exchanged_in lives) first last
+    lives_on [] now exchanges folder last h are =
+        (now, subst (HasGrown m text told now (Some []) (exchanges ++ []) first) are (subst (λ (l : List Exchange). HasGrown m text told now (Some []) l first folder) (sym (append-nil exchanges)) h))
+    lives_on (life ∷ lives) now exchanges folder last h are =
+        let longer = over_longer laws m text told first now are.0.born.now exchanges folder are.0.born.grown h in
+        let good = good_there laws m text told first are.0.born.now exchanges folder longer in
+        let then_grown = grown_then laws m text told first are.0.born.now are.0.later exchanges life.after.exchanges folder life.left longer (one_life folder now life are.0 good) in
+        let r = lives_on lives are.0.later (exchanges ++ life.after.exchanges) life.left last then_grown are.1 in
+        (r.0, subst (λ (l : List Exchange). HasGrown m text told r.0 (Some []) l first last) (append_assoc exchanges life.after.exchanges (exchanged_in lives)) r.1)
+
+pub lives_keep_good : Laws → LivesKeepGood
+lives_keep_good laws m text told first last lives routable modest good are =
+    lives_on laws m text routable modest told first lives told [] first last (at_first laws m text told first good) are
