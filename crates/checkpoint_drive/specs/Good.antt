@@ -1,10 +1,11 @@
 -- What a run over a folder keeps: what a crash leaves of a good folder is good, and nothing that stood in it is lost.
-use Rattle.std.specs.Prelude.{◌≡◌, ◌≤◌, ◌<◌, ℕ, ◌+◌, List, [], ◌++◌, length, map, Some, IfSome, IsTrue}
+use Rattle.std.specs.Prelude.{◌≡◌, ◌≤◌, ◌<◌, ℕ, ◌+◌, List, [], ◌++◌, length, map, Option, Some, IfSome, IsTrue}
 use Rattle.typed_values.specs.declared.address.Address.{Address}
 use Rattle.typed_values.specs.declared.letter.Sender.{Sender}
 use Rattle.typed_values.specs.declared.letter.Sender.TheVariants.{Split, Function}
 use Rattle.sf_outside.specs.Splits.{Lists, split_of}
 use Rattle.sf_outside.specs.declared.call.Exchange.{Exchange}
+use Rattle.sf_outside.specs.declared.call.LinkEvent.{LinkEvent}
 use Rattle.sf_disk.specs.Moments.{Moment, Folder, IsImage, WhereTold, MightHaveLeft, newest}
 use Rattle.address_routing.specs.declared.module.Module.{Module}
 use Rattle.address_routing.specs.Routing.{is_routable, splits_in}
@@ -51,9 +52,10 @@ pub record AreKept (contents : Contents) (epochs : List Epoch) (now : Contents) 
   pub entries : IsFront (record_of contents) (record_of now)
   pub egress : IsFront epochs committed
 
--- A good folder that grew out of an earlier one. Where a link tells, its record is backed by what backed the earlier one's and by what
--- the link exchanged.
-pub record HasGrown (m : Module) (text : List ℕ) (told later : Lists) (before after : Seen) (earlier folder : Folder) : Type 0 where
+-- A good folder that grew out of an earlier one. Where the link told at first what it had done, the record is backed by what backed the
+-- earlier one's and by these exchanges.
+pub record HasGrown (m : Module) (text : List ℕ) (told later : Lists) (journal : Option (List LinkEvent)) (exchanges : List Exchange)
+    (earlier folder : Folder) : Type 0 where
   pub contents : Contents
   pub epochs : List Epoch
   pub stood : Stands text earlier contents epochs
@@ -63,7 +65,12 @@ pub record HasGrown (m : Module) (text : List ℕ) (told later : Lists) (before 
   pub good : IsGood m later now
   pub are : AreCommitted now committed
   pub kept : AreKept contents epochs now committed
-  pub backed : (others : List Exchange) → IfSome before.journal (λ done. IsBackedBy others m told contents → IsBackedBy (others ++ after.exchanges) m later now)
+  pub backed : (others : List Exchange) → IfSome journal (λ done. IsBackedBy others m told contents → IsBackedBy (others ++ exchanges) m later now)
+
+-- so it is of a folder that a crash at that moment may leave
+abbrev pub GrewOutOf : Module → List ℕ → Lists → Lists → Option (List LinkEvent) → List Exchange → Moment → Folder → Type 0
+GrewOutOf m text told later journal exchanges first folder =
+    (earlier : Folder) × IsImage first earlier × HasGrown m text told later journal exchanges earlier folder
 
 -- ---- how a run ends
 
@@ -97,7 +104,7 @@ pub record BeginsGood (m : Module) (text : List ℕ) (told : Lists) (before : Se
 pub record StaysGood (m : Module) (text : List ℕ) (told : Lists) (first : Moment) (old new : List Moment) (before after : Seen) (end : DriveEnd) : Type 0 where
   pub later : Lists
   pub lists : after.lists ≡ Some later
-  pub left : (folder : Folder) → MightHaveLeft old new folder → (earlier : Folder) × IsImage first earlier × HasGrown m text told later before after earlier folder
+  pub left : (folder : Folder) → MightHaveLeft old new folder → GrewOutOf m text told later before.journal after.exchanges first folder
   pub ends : WhereTold new (λ last. (folder : Folder) → IsImage last folder → EndsTruly m text told end folder)
 
 -- Where the lists and the disk's moments are told, a run that begins so keeps it so.

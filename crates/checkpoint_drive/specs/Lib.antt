@@ -7,3 +7,4 @@ pub mod Driven
 pub mod OneLeg
 pub mod Starts
 pub mod Good
+pub mod Lives
