@@ -1,6 +1,7 @@
 //! What legs and runs come to. The functions do nothing but call such laws of lower crates: their contracts are laws.
 ghost use Rattle.checkpoint_drive.specs.Laws.{LegsCompleteWhatIsGood};
 ghost use Rattle.checkpoint_drive.specs.Good.{RunsKeepGood};
+ghost use Rattle.checkpoint_drive.specs.Lives.{LivesKeepGood};
 
 use checkpoint_state::{
     a_checkpoint_behind_a_good_record_is_good, a_later_leg_keeps_what_is_good,
@@ -35,4 +36,14 @@ pub fn what_a_run_leaves_is_good()
     egress_backs_no_step();
     a_later_leg_keeps_what_is_good();
     what_is_stored_is_a_partition();
+}
+
+/// A good folder stays good over many runs, each of which begins with what a crash at some moment left of the one before: it has all
+/// that stood in the first one, and its record is backed by all that the links of all runs exchanged.
+pub fn what_many_runs_leave_is_good()
+    ensures { LivesKeepGood }
+{
+    what_a_run_leaves_is_good();
+    longer_lists_keep_what_is_good();
+    backed_records_go_on();
 }

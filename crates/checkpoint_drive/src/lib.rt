@@ -15,5 +15,7 @@ mod run;
 pub use driving::drive;
 pub use end::DriveEnd;
 pub use job::folder_text;
-pub use laws::{what_a_run_leaves_is_good, what_legs_complete_is_good};
+pub use laws::{
+    what_a_run_leaves_is_good, what_legs_complete_is_good, what_many_runs_leave_is_good,
+};
 pub use options::Options;
