@@ -182,7 +182,7 @@ module _ (plan : Plan) (options : Options) (text : List ℕ) (contents : Content
   abbrev grown : Contents
   grown = after_all (begun_run options contents) legs
 
-  number_so : (number : ℕ) (rest last : Rest) (o p : Seen) → AreLegs plan options rest o legs last p → length contents.checkpoints ≡ rest.newest → number ≡ last.newest → length grown.checkpoints ≡ number
+  pub number_so : (number : ℕ) (rest last : Rest) (o p : Seen) → AreLegs plan options rest o legs last p → length contents.checkpoints ≡ rest.newest → number ≡ last.newest → length grown.checkpoints ≡ number
   number_so number rest last o p are first is =
       let made = numbered plan options rest last o p legs are in
       let checkpoints = ap (λ (l : List Checkpoint). length l) (checkpoints_behind (begun_run options contents) legs) in

@@ -144,7 +144,7 @@ module _ (laws : Laws) (m : Module) (text : List ℕ) (told later : Lists) (befo
     pub backed : (others : List Exchange) → IfSome before.journal (λ done. IsBackedBy others m told contents → IsBackedBy (others ++ after.exchanges) m later (after_all (begun_run options contents) front))
 
   -- none
-  none_completed : (options : Options) (contents : Contents) → IsGood m told contents → Completed options contents []
+  pub none_completed : (options : Options) (contents : Contents) → IsGood m told contents → Completed options contents []
   none_completed options contents good =
       let begun : IsGood m told (begun_run options contents) = laws.later m told contents (contents.leg + most_legs options contents.leg) good in
       record {

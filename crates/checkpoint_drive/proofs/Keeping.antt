@@ -71,7 +71,7 @@ module _ (laws : Laws) (m : Module) (options : Options) (text : List ℕ) (old n
     abbrev all : Fronts (driven_plan m) options from before after (run.comes.legs ++ run.comes.saving)
     all = all_legs (driven_plan m) options (most_legs options run.stored) from before after end run.comes
 
-    went_all : Went before after
+    abbrev went_all : Went before after
     went_all = went_then before (all.there) after (went_legs (driven_plan m) options from all.last before all.there (run.comes.legs ++ run.comes.saving) all.are) all.went
 
     abbrev grown : (later : Lists) × (after.lists ≡ Some later) × GrowTo told later
