@@ -1,5 +1,5 @@
 //! Legs, one after the other.
-ghost use Rattle.std.specs.Prelude.{◌≡◌, ◌<◌, ◌+◌, ◌^◌, true, OnOk};
+ghost use Rattle.std.specs.Prelude.{◌≡◌, ◌<◌, ◌+◌, ◌^◌, ◌&&◌, true, OnOk};
 ghost use Rattle.snapshot_files.specs.Stores.{newest};
 ghost use Rattle.store_faults.specs.Faults.{HasStoreCause};
 ghost use Rattle.statefun_driver.specs.Origins.{IsHeld};
@@ -7,6 +7,7 @@ ghost use Rattle.statefun_driver.specs.Runs.{AreModest};
 ghost use Rattle.statefun_driver.specs.Work.{here, plan_of, splits_of};
 ghost use Rattle.checkpoint_storage.specs.Folders.{IsKnown};
 ghost use Rattle.checkpoint_drive.specs.Begins.{IsReady};
+ghost use Rattle.checkpoint_drive.specs.Drives.{is_held};
 ghost use Rattle.checkpoint_drive.specs.Driven.{HasDiskCause, IsUnderway, MakesLegs};
 ghost use Rattle.checkpoint_drive.specs.OneLeg.{Closes, HasLegCause, IsSame, MakesLeg, Turned, counted};
 
@@ -74,8 +75,15 @@ impl Run {
         let asked = self.is_asked();
         let done = self.turn(outside)?;
         self.close(asked, disk)?;
-        let held = self.is_held();
-        Ok(self.options.drain && done && held)
+        let over = self.is_over(done);
+        Ok(over)
+    }
+
+    /// Whether the run is over behind a leg: it drains, the leg's turn left nothing to do, and all is in a checkpoint.
+    fn is_over(&self, done: bool) -> bool
+        ensures { result ≡ (self.now.options.drain && done && is_held (newest self.now.storage.store) (here self.now.progress)) }
+    {
+        self.options.drain && done && self.is_held()
     }
 
     /// Makes a turn. `true` where no split may have more records, and nothing is left to do.
