@@ -35,6 +35,8 @@ pub fn drive<O: Outside, D: Disk>(
     ensures cause { HasDiskCause (D.faults disk.old) (D.faults disk.new) result }
 {
     what_a_run_leaves_is_good();
+    // what is run can be routed
+    let _module = routes.module();
     run_over(alloc, routes, options, outside, disk)
 }
 
