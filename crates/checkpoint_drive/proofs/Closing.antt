@@ -35,7 +35,7 @@ closed_without run origin old = record {
 
 -- ---- with one
 
-module _ (run mid : Run) (origin : Origin) (old new : List Moment) (rests : run.job.rests ≡ true) (beside : AreBeside run mid)
+module _ (run mid : Run) (old new : List Moment) (rests : run.job.rests ≡ true) (beside : AreBeside run mid)
     (here_is : here mid.progress ≡ rests_at (origin_of (here run.progress))) (number : newest mid.storage.store ≡ newest run.storage.store + 1) where
   abbrev next : Origin
   next = origin_of (here run.progress)
@@ -46,8 +46,8 @@ module _ (run mid : Run) (origin : Origin) (old new : List Moment) (rests : run.
   rest_is : rest_of next (counted mid) ≡ rested run.options next (first_control (plan_of run.job) next) (run.legs + 1) (newest run.storage.store + 1)
   rest_is = λ i. rested (beside.options i) next (control_is i) (beside.legs i + 1) (number i)
 
-  pub closed_with : Saves run mid old new (Ok tt) → IsClosed run (counted mid) origin true old new
-  closed_with (mark, piece, saving, became) = record {
+  pub closed_with : (origin : Origin) → Saves run mid old new (Ok tt) → IsClosed run (counted mid) origin true old new
+  closed_with origin (mark, piece, saving, became) = record {
     taken = Some (checkpoint_of mark piece);
     as_asked = refl;
     is_taken = (mark, piece, saving.is, refl);
