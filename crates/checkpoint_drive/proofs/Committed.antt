@@ -1,9 +1,9 @@
 -- The egress of all checkpoints is committed, but for the newest one's perhaps: so it stays.
-use Rattle.std.proofs.Common.{◌≡◌, ◌⊎◌, inl, inr, ℕ, ◌+◌, ◌≤◌, List, [], ◌∷◌, ◌++◌, length, map, Option, Some, None, option_map, refl, sym, ◌∙◌, ap, subst, arith, append_assoc, append-nil, length-append}
+use Rattle.std.proofs.Common.{◌≡◌, ◌⊎◌, inl, inr, ◌+◌, ◌≤◌, List, [], ◌∷◌, ◌++◌, length, map, option_map, refl, sym, ◌∙◌, ap, subst, arith, append_assoc, append-nil, length-append}
 use Rattle.std.specs.Prelude.{slice_get}
 use Rattle.std.specs.Option.{option_to_list}
 use Rattle.std.proofs.lemmas.List.{length-map}
-use Rattle.folder_form.specs.Folders.{Checkpoint, Contents, egress_in}
+use Rattle.folder_form.specs.Folders.{Contents, egress_in}
 use Rattle.egress_commit.specs.Epochs.{Epoch}
 use Rattle.checkpoint_storage.specs.Folders.{MayCommit, with_next}
 use Rattle.statefun_driver.specs.Traces.{IsFront}

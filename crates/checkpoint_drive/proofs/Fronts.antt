@@ -1,5 +1,5 @@
 -- The fronts of the legs of a run: each is legs too, behind which lists and exchanges grew up to the end.
-use Rattle.std.proofs.Common.{◌≡◌, ◌⊎◌, inl, inr, ℕ, ◌+◌, Bool, true, false, List, [], ◌∷◌, ◌++◌, length, map, Option, Some, None, refl, sym, ◌∙◌, ap, subst, arith, append_assoc, append-nil, length-append}
+use Rattle.std.proofs.Common.{◌≡◌, ℕ, ◌+◌, List, [], ◌∷◌, ◌++◌, length, Option, Some, None, refl, sym, ◌∙◌, ap, subst, arith, append_assoc, append-nil, length-append}
 use Rattle.std.specs.Option.{option_to_list}
 use Rattle.sf_outside.specs.Splits.{Grows}
 use Rattle.sf_outside.specs.Answers.{Extends, Extends-none, Extends-then}

@@ -1,18 +1,15 @@
 -- How a run ends that made all its legs: the folder has all their checkpoints, and where it is over nothing is left to do.
-use Rattle.std.proofs.Common.{◌≡◌, ◌⊎◌, inl, inr, ℕ, ◌+◌, ◌<◌, ◌≤◌, Bool, true, false, List, [], ◌∷◌, ◌++◌, length, filter, Option, Some, None, IfSome, refl, sym, ◌∙◌, ap, subst, arith, length-append}
+use Rattle.std.proofs.Common.{◌≡◌, ℕ, ◌+◌, ◌<◌, ◌≤◌, true, false, List, [], ◌∷◌, ◌++◌, length, filter, Option, Some, None, IfSome, refl, sym, ◌∙◌, ap, subst, arith, length-append}
 use Rattle.std.specs.Prelude.{IsTrue, ◌&&◌}
-use Rattle.std.specs.Option.{option_to_list}
 use Rattle.std.proofs.lemmas.Bool.{and_parts}
 use Rattle.typed_values.specs.declared.address.Address.{Address}
 use Rattle.typed_values.specs.declared.letter.Letter.{Letter}
 use Rattle.typed_values.specs.declared.letter.Sender.{Sender}
 use Rattle.typed_values.specs.declared.record.Delay.{Delay}
 use Rattle.typed_values.specs.declared.record.EgressRecord.{EgressRecord}
-use Rattle.typed_values.specs.declared.value.TypedValue.{TypedValue}
 use Rattle.sf_outside.specs.Splits.{Lists, GrowTo, split_of}
 use Rattle.sf_outside.specs.declared.ingress.IngressRecord.{IngressRecord}
-use Rattle.sf_disk.specs.Moments.{Moment, Folder, IsImage, Becomes, newest}
-use Rattle.sf_disk.proofs.Onward.{at_now}
+use Rattle.sf_disk.specs.Moments.{Folder}
 use Rattle.address_routing.specs.declared.module.Module.{Module}
 use Rattle.address_routing.specs.Routing.{is_routable}
 use Rattle.run_record.specs.declared.entry.Entry.{Entry}
@@ -20,12 +17,11 @@ use Rattle.run_record.specs.Egress.{egress_of}
 use Rattle.run_record.specs.Machine.{State, arguments_at, arguments_of}
 use Rattle.run_record.specs.Record.{replayed}
 use Rattle.folder_form.specs.Folders.{Checkpoint, Contents}
-use Rattle.snapshot_files.specs.Opening.{seen}
 use Rattle.egress_commit.specs.Epochs.{Epoch}
 use Rattle.checkpoint_storage.specs.Folders.{Stands, with_next}
 use Rattle.checkpoint_state.specs.Meaning.{state_in, given_by, IsGood}
 use Rattle.partition_core.specs.Work.{Work, is_empty, is_from, is_idle, state_of}
-use Rattle.statefun_driver.specs.Seen.{Event, Seen}
+use Rattle.statefun_driver.specs.Seen.{Seen}
 use Rattle.statefun_driver.specs.Turns.{Plan, Control, Origin, first_control, is_done}
 use Rattle.statefun_driver.specs.Traces.{Trace}
 use Rattle.statefun_driver.specs.Runs.{AreModest, IsDelivered}
@@ -34,8 +30,8 @@ use Rattle.checkpoint_drive.specs.declared.options.Options.{Options}
 use Rattle.checkpoint_drive.specs.Drives.{Rest, Leg, AreLegs, behind, behind_with, completed_by, first_rest, is_held, is_over}
 use Rattle.checkpoint_drive.specs.Laws.{BeginsAt, after, after_all}
 use Rattle.checkpoint_drive.specs.Images.{begun_run, egress_by}
-use Rattle.checkpoint_drive.specs.Driven.{IsOverBehind, StandsFor}
-use Rattle.checkpoint_drive.specs.Good.{AreCommitted, HasAll, IsAllDone, egress_of_all}
+use Rattle.checkpoint_drive.specs.Driven.{IsOverBehind}
+use Rattle.checkpoint_drive.specs.Good.{AreCommitted, HasAll, IsAllDone}
 use Rattle.checkpoint_drive.proofs.GoodLegs.{IsHere, Laws, at_first, legs_lead, leg_leads, told_some, told_then, trace_then}
 use Rattle.checkpoint_drive.proofs.Growing.{after_append}
 use Rattle.checkpoint_drive.proofs.Fronts.{LastLeg, checkpoints_behind, last_leg, numbered}

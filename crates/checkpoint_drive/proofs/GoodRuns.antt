@@ -1,40 +1,38 @@
 -- What a crash leaves of a good folder, while a run goes over it, is good.
 use Rattle.std.proofs.Common.{◌≡◌, ◌⊎◌, inl, inr, ℕ, ◌+◌, ◌≤◌, List, [], ◌∷◌, ◌++◌, Option, Some, None, IfSome, refl, sym, ◌∙◌, ap, subst, arith, append-nil}
-use Rattle.std.specs.Prelude.{IsTrue, length}
+use Rattle.std.specs.Prelude.{IsTrue}
 use Rattle.std.specs.List.{AllByRecursion}
-use Rattle.sf_outside.specs.Splits.{Lists, GrowTo, Grows}
+use Rattle.sf_outside.specs.Splits.{Lists, GrowTo}
 use Rattle.sf_outside.specs.Answers.{Extends}
 use Rattle.sf_outside.specs.declared.call.Call.{Call}
 use Rattle.sf_outside.specs.declared.call.Exchange.{Exchange}
-use Rattle.sf_outside.specs.declared.call.LinkEvent.{LinkEvent}
-use Rattle.sf_disk.specs.Moments.{Moment, Folder, IsImage, Since, WhereTold, MightHaveLeft, newest}
+use Rattle.sf_disk.specs.Moments.{Moment, Folder, IsImage, Since, MightHaveLeft, newest}
 use Rattle.sf_disk.proofs.Onward.{each_left}
 use Rattle.address_routing.specs.declared.module.Module.{Module}
 use Rattle.address_routing.specs.Routing.{is_routable}
 use Rattle.run_record.specs.declared.entry.Entry.{Entry}
-use Rattle.run_record.specs.Machine.{State, first_state}
+use Rattle.run_record.specs.Machine.{first_state}
 use Rattle.run_record.specs.Backed.{AreBacked, calls_of}
 use Rattle.folder_form.specs.declared.loaded.Loaded.{Loaded}
-use Rattle.folder_form.specs.Folders.{Checkpoint, Contents, loaded_of, record_of, with_leg}
+use Rattle.folder_form.specs.Folders.{Contents, loaded_of, record_of}
 use Rattle.snapshot_files.specs.Opening.{seen}
 use Rattle.snapshot_files.specs.Reading.{FitsShape}
 use Rattle.egress_commit.specs.Epochs.{Epoch}
-use Rattle.checkpoint_storage.specs.Folders.{Stands, MayCommit, with_next}
+use Rattle.checkpoint_storage.specs.Folders.{Stands, with_next}
 use Rattle.checkpoint_state.specs.Stored.{stored_state}
-use Rattle.checkpoint_state.specs.Meaning.{state_in, given_by, moment_of, IsGood, IsSound, IsWithin}
+use Rattle.checkpoint_state.specs.Meaning.{state_in, given_by, IsGood, IsSound, IsWithin}
 use Rattle.checkpoint_state.specs.Laws.{CheckpointsAreWork, LegsKeepGood}
 use Rattle.partition_core.specs.Work.{state_of}
 use Rattle.statefun_driver.specs.Seen.{Seen}
-use Rattle.statefun_driver.specs.Turns.{Origin}
 use Rattle.statefun_driver.specs.Traces.{IsFront}
 use Rattle.statefun_driver.specs.Runs.{AreModest}
 use Rattle.statefun_driver.specs.Stretches.{AreUpTo}
 use Rattle.checkpoint_drive.specs.declared.options.Options.{Options}
 use Rattle.checkpoint_drive.specs.Drives.{Leg, first_rest}
 use Rattle.checkpoint_drive.specs.Laws.{BeginsAt, HaveGrownGood, IsBackedBy, after_all}
-use Rattle.checkpoint_drive.specs.Images.{MayLeave, Reaches, RunsOn, IsAsBefore, IsLedBy, begun_run, egress_by, most_legs}
+use Rattle.checkpoint_drive.specs.Images.{MayLeave, Reaches, RunsOn, IsAsBefore, IsLedBy, begun_run, most_legs}
 use Rattle.checkpoint_drive.specs.Begins.{driven_plan, shape_of, stored_origin}
-use Rattle.checkpoint_drive.specs.Good.{AreCommitted, AreKept, BeginsGood, GrewOutOf, HasGood, HasGrown}
+use Rattle.checkpoint_drive.specs.Good.{AreCommitted, BeginsGood, GrewOutOf, HasGood, HasGrown}
 use Rattle.checkpoint_drive.proofs.GoodLegs.{Laws as LegLaws, behind_others, legs_complete_what_is_good, one_later, some_then, told_then}
 use Rattle.checkpoint_drive.proofs.Fronts.{Fronts, Went, checkpoints_behind}
 use Rattle.checkpoint_drive.proofs.Committed.{commit_keeps, legs_keep, may_commit, still_committed}
@@ -248,7 +246,7 @@ module _ (laws : Laws) (m : Module) (text : List ℕ) (told later : Lists) (befo
       pub might_leave : (folder : Folder) → MightHaveLeft old new folder → GrewOutOf m text told later before.journal after.exchanges first folder
       might_leave folder left =
           let all = each_left old new (MayLeave text options legs) folder (λ (moment : Moment). GrewOutOf m text told later before.journal after.exchanges first folder) meanwhile
-                  (λ moment is image. at_once folder (subst (λ (x : Moment). IsImage x folder) (one_moment (newest old) moment first is is_first) image))
-                  (λ moment next is may image. leaves next (subst (λ (x : Moment). MayLeave text options legs x next) (one_moment (newest old) moment first is is_first) may) folder image)
-                  left in
+          (λ moment is image. at_once folder (subst (λ (x : Moment). IsImage x folder) (one_moment (newest old) moment first is is_first) image))
+          (λ moment next is may image. leaves next (subst (λ (x : Moment). MayLeave text options legs x next) (one_moment (newest old) moment first is is_first) may) folder image)
+          left in
           all.2

@@ -1,31 +1,29 @@
 -- A run over a folder keeps what is good in it.
-use Rattle.std.proofs.Common.{◌≡◌, ◌⊎◌, inl, inr, ℕ, List, [], ◌∷◌, ◌++◌, length, Option, Some, None, IfSome, refl, sym, ◌∙◌, ap, subst}
+use Rattle.std.proofs.Common.{◌≡◌, inl, inr, ℕ, List, [], ◌∷◌, ◌++◌, length, Some, refl, sym, ◌∙◌, ap, subst}
 use Rattle.std.specs.Prelude.{IsTrue}
 use Rattle.sf_outside.specs.Splits.{Lists, GrowTo}
-use Rattle.sf_disk.specs.Moments.{Moment, Folder, IsImage, Becomes, WhereTold, newest}
+use Rattle.sf_disk.specs.Moments.{Moment, Folder, IsImage, Becomes, newest}
 use Rattle.sf_disk.proofs.Onward.{at_now}
 use Rattle.address_routing.specs.declared.module.Module.{Module}
 use Rattle.address_routing.specs.Routing.{is_routable}
-use Rattle.folder_form.specs.declared.loaded.Loaded.{Loaded}
 use Rattle.folder_form.specs.Folders.{Contents, loaded_of}
 use Rattle.snapshot_files.specs.Opening.{seen}
 use Rattle.egress_commit.specs.Epochs.{Epoch}
 use Rattle.store_faults.specs.declared.fault.StoreFault.{StoreFault}
 use Rattle.checkpoint_storage.specs.Folders.{Stands, with_next}
-use Rattle.checkpoint_state.specs.Meaning.{state_in, IsGood}
+use Rattle.checkpoint_state.specs.Meaning.{IsGood}
 use Rattle.statefun_driver.specs.Seen.{Seen}
 use Rattle.statefun_driver.specs.Traces.{IsFront}
 use Rattle.statefun_driver.specs.Runs.{AreModest}
-use Rattle.statefun_driver.specs.Stretches.{AreUpTo}
 use Rattle.checkpoint_drive.specs.declared.end.DriveEnd.{DriveEnd}
 use Rattle.checkpoint_drive.specs.declared.end.DriveEnd.TheVariants.{Done, TurnsSpent, Refused, Stopped}
 use Rattle.checkpoint_drive.specs.declared.options.Options.{Options}
 use Rattle.checkpoint_drive.specs.Drives.{Leg, Rest, AreLegs, first_rest}
 use Rattle.checkpoint_drive.specs.Laws.{after_all}
-use Rattle.checkpoint_drive.specs.Images.{MayLeave, begun_run, egress_by, most_legs}
+use Rattle.checkpoint_drive.specs.Images.{begun_run, egress_by, most_legs}
 use Rattle.checkpoint_drive.specs.Begins.{driven_plan, stored_origin}
 use Rattle.checkpoint_drive.specs.Driven.{EndBy, HasRun, IfWhole, IsDriven, StandsFor, WasRefused}
-use Rattle.checkpoint_drive.specs.Good.{AreCommitted, BeginsGood, EndsTruly, HasGood, KeepsGood, RunsKeepGood, StaysGood}
+use Rattle.checkpoint_drive.specs.Good.{AreCommitted, BeginsGood, EndsTruly, HasGood, RunsKeepGood, StaysGood}
 use Rattle.checkpoint_drive.proofs.GoodLegs.{told_then}
 use Rattle.checkpoint_drive.proofs.Fronts.{Fronts, Went, all_legs, front_of, went_to, went_legs, went_then}
 use Rattle.checkpoint_drive.proofs.GoodRuns.{Completed, Laws, begun_at, begun_fresh, begun_good, committed_as, front_completed, good_as, might_leave, none_completed, seen_is_image}
@@ -95,15 +93,15 @@ module _ (laws : Laws) (m : Module) (options : Options) (text : List ℕ) (old n
       pub ends_truly : (end : DriveEnd) (legs saving : List Leg) (last : Rest) (between : Seen) (are_legs : AreLegs (driven_plan m) options from before legs last between)
           → EndBy (driven_plan m) options (most_legs options run.stored) from legs last between saving after end
           → IfWhole end (Becomes old new (λ first last. (contents : Contents) (epochs : List Epoch) → Stands text (seen first) contents epochs
-              → StandsFor text last (after_all (begun_run options contents) legs) (with_next contents epochs ++ egress_by legs)))
+          → StandsFor text last (after_all (begun_run options contents) legs) (with_next contents epochs ++ egress_by legs)))
           → (moment : Moment) → newest new ≡ Some moment → (folder : Folder) → IsImage moment folder → EndsTruly m text told end folder
       ends_truly (Done number) legs saving last between are_legs by became moment is folder image = (
         has_all (driven_plan m) options text contents epochs are legs number from last before between are_legs stored.1 by.2 folder (at_now old new _ became first moment is_first is contents epochs stood folder image),
         over_all_done laws.legs (driven_plan m) options (begun_run options contents) (stored_origin run.stored run.loaded) run.newest told before routable modest lists
-        (begun_good laws m text told grown.0 before after went_all lists grown.1 options contents run.stored run.newest run.loaded stored.0 stored.2 run.fits good (begins.fresh contents epochs stood) routable modest)
-        (begun_at laws m text told grown.0 before after went_all lists grown.1 options contents run.stored run.newest run.loaded stored.0 stored.2 run.fits good (begins.fresh contents epochs stood) routable modest)
-        (begun_fresh laws m text told grown.0 before after went_all lists grown.1 options contents run.stored run.newest run.loaded stored.0 stored.2 run.fits good (begins.fresh contents epochs stood) routable modest)
-        legs last between are_legs by.3
+            (begun_good laws m text told grown.0 before after went_all lists grown.1 options contents run.stored run.newest run.loaded stored.0 stored.2 run.fits good (begins.fresh contents epochs stood) routable modest)
+            (begun_at laws m text told grown.0 before after went_all lists grown.1 options contents run.stored run.newest run.loaded stored.0 stored.2 run.fits good (begins.fresh contents epochs stood) routable modest)
+            (begun_fresh laws m text told grown.0 before after went_all lists grown.1 options contents run.stored run.newest run.loaded stored.0 stored.2 run.fits good (begins.fresh contents epochs stood) routable modest)
+            legs last between are_legs by.3,
       )
       ends_truly (TurnsSpent number made) legs saving last between are_legs by became moment is folder image =
           has_all (driven_plan m) options text contents epochs are legs number from last before between are_legs stored.1 by.2 folder (at_now old new _ became first moment is_first is contents epochs stood folder image)

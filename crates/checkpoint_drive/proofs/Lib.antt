@@ -16,3 +16,4 @@ pub mod GoodRuns
 pub mod GoodEnds
 pub mod Keeping
 pub mod LongLives
+pub mod FromNothing

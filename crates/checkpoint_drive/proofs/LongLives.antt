@@ -1,30 +1,25 @@
 -- A folder stays good over many runs, whatever crashes came between them.
 use mathlib.Core.Path.{fun_ext}
-use Rattle.std.proofs.Common.{◌≡◌, ℕ, List, [], ◌∷◌, ◌++◌, Option, Some, None, IfSome, refl, sym, ◌∙◌, ap, subst, arith, append_assoc, append-nil}
-use Rattle.std.specs.Prelude.{IsTrue, Contains}
+use Rattle.std.proofs.Common.{◌≡◌, ℕ, List, [], ◌∷◌, ◌++◌, Option, Some, IfSome, sym, ◌∙◌, ap, subst, arith, append_assoc, append-nil}
+use Rattle.std.specs.Prelude.{IsTrue}
 use Rattle.sf_outside.specs.Splits.{Lists, GrowTo}
-use Rattle.sf_outside.specs.Answers.{Extends, Extends-none}
-use Rattle.sf_outside.specs.declared.call.Call.{Call}
+use Rattle.sf_outside.specs.Answers.{Extends-none}
 use Rattle.sf_outside.specs.declared.call.Exchange.{Exchange}
 use Rattle.sf_outside.specs.declared.call.LinkEvent.{LinkEvent}
-use Rattle.sf_outside.specs.declared.call.LinkEvent.TheVariants.{Started}
-use Rattle.sf_disk.specs.Moments.{Moment, Folder, IsImage}
+use Rattle.sf_disk.specs.Moments.{Folder, IsImage}
 use Rattle.address_routing.specs.declared.module.Module.{Module}
 use Rattle.address_routing.specs.Routing.{is_routable}
-use Rattle.run_record.specs.declared.entry.Entry.{Entry}
 use Rattle.run_record.specs.Machine.{first_state}
 use Rattle.run_record.specs.Backed.{AreBacked}
 use Rattle.folder_form.specs.Folders.{Contents, record_of}
-use Rattle.snapshot_files.specs.Opening.{seen}
 use Rattle.egress_commit.specs.Epochs.{Epoch}
-use Rattle.checkpoint_storage.specs.Folders.{Stands}
-use Rattle.checkpoint_state.specs.Meaning.{state_in, IsGood}
+use Rattle.checkpoint_state.specs.Meaning.{state_in}
 use Rattle.checkpoint_state.specs.Laws.{BackingGrows, ListsKeepGood}
 use Rattle.statefun_driver.specs.Traces.{IsFront}
 use Rattle.statefun_driver.specs.Runs.{AreModest}
 use Rattle.statefun_driver.specs.Stretches.{AreUpTo}
 use Rattle.checkpoint_drive.specs.Laws.{IsBackedBy}
-use Rattle.checkpoint_drive.specs.Good.{AreKept, BeginsGood, HasGood, HasGrown, RunsKeepGood, StaysGood}
+use Rattle.checkpoint_drive.specs.Good.{AreKept, BeginsGood, HasGood, HasGrown, RunsKeepGood}
 use Rattle.checkpoint_drive.specs.Lives.{AreLives, IsBorn, IsLife, Life, LivesKeepGood, exchanged_in}
 use Rattle.checkpoint_drive.proofs.Whole.{stands_once}
 
@@ -132,7 +127,7 @@ module _ (laws : Laws) (m : Module) (text : List ℕ) (routable : IsTrue (is_rou
       → HasGrown m text is.born.now is.later (Some []) life.after.exchanges folder life.left
   one_life folder told life is good =
       let s = laws.runs m life.options text life.old life.new life.before life.after life.end routable modest is.driven is.born.now is.born.first is.born.lists is.born.is_first
-              (begins_good m text folder told life is.born good) in
+      (begins_good m text folder told life is.born good) in
       let l = s.left life.left is.crashed in
       subst (λ (f : Folder). HasGrown m text is.born.now is.later (Some []) life.after.exchanges f life.left) (only_image m text folder told life is.born l.0 l.1)
       (subst (λ (j : Option (List LinkEvent)). HasGrown m text is.born.now is.later j life.after.exchanges l.0 life.left) is.born.journal

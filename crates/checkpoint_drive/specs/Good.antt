@@ -44,6 +44,13 @@ pub record HasGood (m : Module) (text : List ℕ) (told : Lists) (folder : Folde
   pub good : IsGood m told contents
   pub are : AreCommitted contents epochs
 
+-- a folder without a byte is one, for each job
+abbrev pub no_folder : Folder
+no_folder file = []
+
+abbrev pub EmptyIsGood : Type 0
+EmptyIsGood = (m : Module) (text : List ℕ) (told : Lists) → HasGood m text told no_folder
+
 -- ---- what a crash leaves of it
 
 -- no checkpoint, no entry of the record and no committed epoch was lost or changed

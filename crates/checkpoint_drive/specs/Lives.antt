@@ -11,7 +11,8 @@ use Rattle.statefun_driver.specs.Runs.{AreModest}
 use Rattle.checkpoint_drive.specs.declared.end.DriveEnd.{DriveEnd}
 use Rattle.checkpoint_drive.specs.declared.options.Options.{Options}
 use Rattle.checkpoint_drive.specs.Driven.{IsDriven}
-use Rattle.checkpoint_drive.specs.Good.{HasGood, HasGrown}
+use Rattle.checkpoint_drive.specs.Laws.{IsBackedBy}
+use Rattle.checkpoint_drive.specs.Good.{HasGood, HasGrown, no_folder}
 
 -- a run over a folder, and what a crash left of that
 pub record Life : Type 0 where
@@ -59,3 +60,10 @@ LivesKeepGood =
     (m : Module) (text : List ℕ) (told : Lists) (first last : Folder) (lives : List Life)
     → IsTrue (is_routable m) → AreModest m.endpoints → HasGood m text told first → AreLives m text first told lives last
     → (later : Lists) × HasGrown m text told later (Some []) (exchanged_in lives) first last
+
+-- What lives make of a folder that had nothing is good, and its record is backed by all that their links exchanged.
+abbrev pub LivesMakeGood : Type 0
+LivesMakeGood =
+    (m : Module) (text : List ℕ) (told : Lists) (last : Folder) (lives : List Life)
+    → IsTrue (is_routable m) → AreModest m.endpoints → AreLives m text no_folder told lives last
+    → (later : Lists) × (good : HasGood m text later last) × IsBackedBy (exchanged_in lives) m later good.contents

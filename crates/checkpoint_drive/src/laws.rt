@@ -1,12 +1,12 @@
 //! What legs and runs come to. The functions do nothing but call such laws of lower crates: their contracts are laws.
 ghost use Rattle.checkpoint_drive.specs.Laws.{LegsCompleteWhatIsGood};
-ghost use Rattle.checkpoint_drive.specs.Good.{RunsKeepGood};
-ghost use Rattle.checkpoint_drive.specs.Lives.{LivesKeepGood};
+ghost use Rattle.checkpoint_drive.specs.Good.{EmptyIsGood, RunsKeepGood};
+ghost use Rattle.checkpoint_drive.specs.Lives.{LivesKeepGood, LivesMakeGood};
 
 use checkpoint_state::{
     a_checkpoint_behind_a_good_record_is_good, a_later_leg_keeps_what_is_good,
     backed_records_go_on, egress_backs_no_step, entries_lead_to_the_next_checkpoint,
-    longer_lists_keep_what_is_good, what_is_stored_is_a_partition,
+    longer_lists_keep_what_is_good, no_checkpoint_is_good, what_is_stored_is_a_partition,
 };
 use statefun_driver::what_turns_come_to;
 
@@ -46,4 +46,20 @@ pub fn what_many_runs_leave_is_good()
     what_a_run_leaves_is_good();
     longer_lists_keep_what_is_good();
     backed_records_go_on();
+}
+
+/// A folder without a byte is good, for each job.
+pub fn an_empty_folder_is_good()
+    ensures { EmptyIsGood }
+{
+    no_checkpoint_is_good();
+}
+
+/// Many runs over a folder that was empty at first, each over what a crash left of the one before, leave it good, and each answer in its
+/// record is one that an endpoint gave in one of the runs.
+pub fn what_runs_make_of_nothing_is_good()
+    ensures { LivesMakeGood }
+{
+    what_many_runs_leave_is_good();
+    an_empty_folder_is_good();
 }
