@@ -1,12 +1,11 @@
 -- A folder stays good over many runs, whatever crashes came between them.
-use mathlib.Core.Path.{fun_ext}
 use Rattle.std.proofs.Common.{◌≡◌, ℕ, List, [], ◌∷◌, ◌++◌, Option, Some, IfSome, sym, ◌∙◌, ap, subst, arith, append_assoc, append-nil}
 use Rattle.std.specs.Prelude.{IsTrue}
 use Rattle.sf_outside.specs.Splits.{Lists, GrowTo}
 use Rattle.sf_outside.specs.Answers.{Extends-none}
 use Rattle.sf_outside.specs.declared.call.Exchange.{Exchange}
 use Rattle.sf_outside.specs.declared.call.LinkEvent.{LinkEvent}
-use Rattle.sf_disk.specs.Moments.{Folder, IsImage}
+use Rattle.sf_disk.specs.Moments.{Folder, MightHaveLeft}
 use Rattle.address_routing.specs.declared.module.Module.{Module}
 use Rattle.address_routing.specs.Routing.{is_routable}
 use Rattle.run_record.specs.Machine.{first_state}
@@ -19,8 +18,8 @@ use Rattle.statefun_driver.specs.Traces.{IsFront}
 use Rattle.statefun_driver.specs.Runs.{AreModest}
 use Rattle.statefun_driver.specs.Stretches.{AreUpTo}
 use Rattle.checkpoint_drive.specs.Laws.{IsBackedBy}
-use Rattle.checkpoint_drive.specs.Good.{AreKept, BeginsGood, HasGood, HasGrown, RunsKeepGood}
-use Rattle.checkpoint_drive.specs.Lives.{AreLives, IsBorn, IsLife, Life, LivesKeepGood, exchanged_in}
+use Rattle.checkpoint_drive.specs.Good.{AreKept, BeginsGood, HasGood, HasGrown, RunsKeepGood, StaysGood}
+use Rattle.checkpoint_drive.specs.Lives.{AreLives, IsLife, Life, LivesKeepGood, exchanged_in}
 use Rattle.checkpoint_drive.proofs.Whole.{stands_once}
 
 -- what is known of runs, and of contents
@@ -109,44 +108,47 @@ module _ (laws : Laws) (m : Module) (text : List ℕ) (told : Lists) (first : Fo
 none_started : (leg : ℕ) → AreUpTo leg []
 none_started leg call url request there = absurd (let k = there.1 in omega (arith, k))
 
-module _ (m : Module) (text : List ℕ) (folder : Folder) (told : Lists) (life : Life) (born : IsBorn folder told life) where
-  only_image : (image : Folder) → IsImage born.first image → image ≡ folder
-  only_image image is = fun_ext (λ file. born.synced file (image file) (is file) ∙ born.reads file)
+one_later : (o : Option Lists) (a b : Lists) → o ≡ Some a → o ≡ Some b → a ≡ b
+one_later o a b is_a is_b = cc
 
-  begins_good : HasGood m text born.now folder → BeginsGood m text born.now life.before born.first
-  begins_good g = record {
-    each = λ image is. subst (HasGood m text born.now) (sym (only_image image is)) g;
-    fresh = λ contents epochs stands. subst (λ (j : Option (List LinkEvent)). IfSome j (AreUpTo contents.leg)) (sym born.journal) (none_started contents.leg);
-  }
+module _ (laws : Laws) (m : Module) (text : List ℕ) (routable : IsTrue (is_routable m)) (modest : AreModest m.endpoints) (told : Lists) (first : Folder) where
+  -- what a crash leaves of it has grown out of the first folder, where all that it may begin with had
+  module _ (may : Folder → Type 0) (one : Lists) (exchanges : List Exchange)
+      (grown : (folder : Folder) → may folder → HasGrown m text told one (Some []) exchanges first folder) (life : Life) (is : IsLife m text may one life) where
+    longer : (folder : Folder) → may folder → HasGrown m text told is.born.now (Some []) exchanges first folder
+    longer folder there = over_longer laws m text told first one is.born.now exchanges folder is.born.grown (grown folder there)
 
-module _ (laws : Laws) (m : Module) (text : List ℕ) (routable : IsTrue (is_routable m)) (modest : AreModest m.endpoints) where
-  one_later : (o : Option Lists) (a b : Lists) → o ≡ Some a → o ≡ Some b → a ≡ b
-  one_later o a b is_a is_b = cc
+    begins_good : BeginsGood m text is.born.now life.before is.born.first
+    begins_good = record {
+      each = λ folder image. good_there laws m text told first is.born.now exchanges folder (longer folder (is.born.each folder image));
+      fresh = λ contents epochs stands. subst (λ (j : Option (List LinkEvent)). IfSome j (AreUpTo contents.leg)) (sym is.born.journal) (none_started contents.leg);
+    }
 
-  one_life : (folder : Folder) (told : Lists) (life : Life) (is : IsLife m text folder told life) → HasGood m text is.born.now folder
-      → HasGrown m text is.born.now is.later (Some []) life.after.exchanges folder life.left
-  one_life folder told life is good =
-      let s = laws.runs m life.options text life.old life.new life.before life.after life.end routable modest is.driven is.born.now is.born.first is.born.lists is.born.is_first
-      (begins_good m text folder told life is.born good) in
-      let l = s.left life.left is.crashed in
-      subst (λ (f : Folder). HasGrown m text is.born.now is.later (Some []) life.after.exchanges f life.left) (only_image m text folder told life is.born l.0 l.1)
-      (subst (λ (j : Option (List LinkEvent)). HasGrown m text is.born.now is.later j life.after.exchanges l.0 life.left) is.born.journal
-      (subst (λ (later : Lists). HasGrown m text is.born.now later life.before.journal life.after.exchanges l.0 life.left) (one_later life.after.lists s.later is.later s.lists is.lists) l.2))
+    stays_good : StaysGood m text is.born.now is.born.first life.old life.new life.before life.after life.end
+    stays_good = laws.runs m life.options text life.old life.new life.before life.after life.end routable modest is.driven is.born.now is.born.first is.born.lists is.born.is_first begins_good
+
+    as_told : (earlier folder : Folder) → HasGrown m text is.born.now stays_good.later life.before.journal life.after.exchanges earlier folder
+        → HasGrown m text is.born.now is.later (Some []) life.after.exchanges earlier folder
+    as_told earlier folder h =
+        subst (λ (j : Option (List LinkEvent)). HasGrown m text is.born.now is.later j life.after.exchanges earlier folder) is.born.journal
+        (subst (λ (later : Lists). HasGrown m text is.born.now later life.before.journal life.after.exchanges earlier folder) (one_later life.after.lists stays_good.later is.later stays_good.lists is.lists) h)
+
+    one_life : (folder : Folder) → MightHaveLeft life.old life.new folder → HasGrown m text told is.later (Some []) (exchanges ++ life.after.exchanges) first folder
+    one_life folder left =
+        let l = stays_good.left folder left in
+        grown_then laws m text told first is.born.now is.later exchanges life.after.exchanges l.0 folder (longer l.0 (is.born.each l.0 l.1)) (as_told l.0 folder l.2)
 
   -- ---- all of them
 
-  module _ (told : Lists) (first : Folder) where
-    lives_on : (lives : List Life) (now : Lists) (exchanges : List Exchange) (folder last : Folder) → HasGrown m text told now (Some []) exchanges first folder → AreLives m text folder now lives last
-        → (later : Lists) × HasGrown m text told later (Some []) (exchanges ++ exchanged_in lives) first last
-    lives_on [] now exchanges folder last h are =
-        (now, subst (HasGrown m text told now (Some []) (exchanges ++ []) first) are (subst (λ (l : List Exchange). HasGrown m text told now (Some []) l first folder) (sym (append-nil exchanges)) h))
-    lives_on (life ∷ lives) now exchanges folder last h are =
-        let longer = over_longer laws m text told first now are.0.born.now exchanges folder are.0.born.grown h in
-        let good = good_there laws m text told first are.0.born.now exchanges folder longer in
-        let then_grown = grown_then laws m text told first are.0.born.now are.0.later exchanges life.after.exchanges folder life.left longer (one_life folder now life are.0 good) in
-        let r = lives_on lives are.0.later (exchanges ++ life.after.exchanges) life.left last then_grown are.1 in
-        (r.0, subst (λ (l : List Exchange). HasGrown m text told r.0 (Some []) l first last) (append_assoc exchanges life.after.exchanges (exchanged_in lives)) r.1)
+  pub lives_on : (lives : List Life) (may : Folder → Type 0) (one : Lists) (exchanges : List Exchange) (last : Folder)
+      → ((folder : Folder) → may folder → HasGrown m text told one (Some []) exchanges first folder) → AreLives m text may one lives last
+      → (later : Lists) × HasGrown m text told later (Some []) (exchanges ++ exchanged_in lives) first last
+  lives_on [] may one exchanges last grown are = (one, subst (λ (l : List Exchange). HasGrown m text told one (Some []) l first last) (sym (append-nil exchanges)) (grown last are))
+  lives_on (life ∷ lives) may one exchanges last grown are =
+      let r = lives_on lives (MightHaveLeft life.old life.new) are.0.later (exchanges ++ life.after.exchanges) last (one_life may one exchanges grown life are.0) are.1 in
+      (r.0, subst (λ (l : List Exchange). HasGrown m text told r.0 (Some []) l first last) (append_assoc exchanges life.after.exchanges (exchanged_in lives)) r.1)
 
 pub lives_keep_good : Laws → LivesKeepGood
 lives_keep_good laws m text told first last lives routable modest good are =
-    lives_on laws m text routable modest told first lives told [] first last (at_first laws m text told first good) are
+    lives_on laws m text routable modest told first lives (λ folder. folder ≡ first) told [] last
+    (λ folder same. subst (λ (f : Folder). HasGrown m text told told (Some []) [] first f) (sym same) (at_first laws m text told first good)) are

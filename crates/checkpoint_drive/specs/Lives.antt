@@ -2,8 +2,7 @@
 use Rattle.std.specs.Prelude.{◌≡◌, ℕ, List, [], ◌∷◌, ◌++◌, Some, IsTrue}
 use Rattle.sf_outside.specs.Splits.{Lists, GrowTo}
 use Rattle.sf_outside.specs.declared.call.Exchange.{Exchange}
-use Rattle.sf_disk.specs.Images.{IsSynced}
-use Rattle.sf_disk.specs.Moments.{Moment, Folder, MightHaveLeft, newest}
+use Rattle.sf_disk.specs.Moments.{Moment, Folder, IsImage, MightHaveLeft, newest}
 use Rattle.address_routing.specs.declared.module.Module.{Module}
 use Rattle.address_routing.specs.Routing.{is_routable}
 use Rattle.statefun_driver.specs.Seen.{Seen}
@@ -14,7 +13,7 @@ use Rattle.checkpoint_drive.specs.Driven.{IsDriven}
 use Rattle.checkpoint_drive.specs.Laws.{IsBackedBy}
 use Rattle.checkpoint_drive.specs.Good.{HasGood, HasGrown, no_folder}
 
--- a run over a folder, and what a crash left of that
+-- a run over a folder
 pub record Life : Type 0 where
   pub options : Options
   -- the disk's moments, and what the outside told, at first and in the end
@@ -23,31 +22,28 @@ pub record Life : Type 0 where
   pub before : Seen
   pub after : Seen
   pub end : DriveEnd
-  pub left : Folder
 
--- It began over this folder, all of it synced, with lists that may have grown, and with a link that had done nothing.
-pub record IsBorn (folder : Folder) (told : Lists) (life : Life) : Type 0 where
+-- It began over one of these folders: a crash at once would leave no other. The lists may have grown, and the link had done nothing.
+pub record IsBorn (may : Folder → Type 0) (told : Lists) (life : Life) : Type 0 where
   pub first : Moment
   pub is_first : newest life.old ≡ Some first
-  pub reads : (file : ℕ) → (first file).seen ≡ folder file
-  pub synced : (file : ℕ) → IsSynced (first file)
+  pub each : (folder : Folder) → IsImage first folder → may folder
   pub now : Lists
   pub lists : life.before.lists ≡ Some now
   pub grown : GrowTo told now
   pub journal : life.before.journal ≡ Some []
 
--- Then it went on as a run does, and a crash came at some moment of it.
-pub record IsLife (m : Module) (text : List ℕ) (folder : Folder) (told : Lists) (life : Life) : Type 0 where
-  pub born : IsBorn folder told life
+-- Then it went on as a run does.
+pub record IsLife (m : Module) (text : List ℕ) (may : Folder → Type 0) (told : Lists) (life : Life) : Type 0 where
+  pub born : IsBorn may told life
   pub driven : IsDriven m life.options text life.old life.new life.before life.after life.end
-  pub crashed : MightHaveLeft life.old life.new life.left
   pub later : Lists
   pub lists : life.after.lists ≡ Some later
 
--- one life after the other, from the first folder to the last
-abbrev pub AreLives : Module → List ℕ → Folder → Lists → List Life → Folder → Type 0
-AreLives m text folder told [] last = folder ≡ last
-AreLives m text folder told (life ∷ lives) last = (is : IsLife m text folder told life) × AreLives m text life.left is.later lives last
+-- One life after the other, up to the last folder: each begins with what a crash at any moment of the one before might have left.
+abbrev pub AreLives : Module → List ℕ → (Folder → Type 0) → Lists → List Life → Folder → Type 0
+AreLives m text may told [] last = may last
+AreLives m text may told (life ∷ lives) last = (is : IsLife m text may told life) × AreLives m text (MightHaveLeft life.old life.new) is.later lives last
 
 -- what their links exchanged
 abbrev pub exchanged_in : List Life → List Exchange
@@ -58,12 +54,12 @@ exchanged_in (life ∷ lives) = life.after.exchanges ++ exchanged_in lives
 abbrev pub LivesKeepGood : Type 0
 LivesKeepGood =
     (m : Module) (text : List ℕ) (told : Lists) (first last : Folder) (lives : List Life)
-    → IsTrue (is_routable m) → AreModest m.endpoints → HasGood m text told first → AreLives m text first told lives last
+    → IsTrue (is_routable m) → AreModest m.endpoints → HasGood m text told first → AreLives m text (λ folder. folder ≡ first) told lives last
     → (later : Lists) × HasGrown m text told later (Some []) (exchanged_in lives) first last
 
 -- What lives make of a folder that had nothing is good, and its record is backed by all that their links exchanged.
 abbrev pub LivesMakeGood : Type 0
 LivesMakeGood =
     (m : Module) (text : List ℕ) (told : Lists) (last : Folder) (lives : List Life)
-    → IsTrue (is_routable m) → AreModest m.endpoints → AreLives m text no_folder told lives last
+    → IsTrue (is_routable m) → AreModest m.endpoints → AreLives m text (λ folder. folder ≡ no_folder) told lives last
     → (later : Lists) × (good : HasGood m text later last) × IsBackedBy (exchanged_in lives) m later good.contents
