@@ -17,3 +17,4 @@ pub mod GoodEnds
 pub mod Keeping
 pub mod LongLives
 pub mod FromNothing
+pub mod OfMachine

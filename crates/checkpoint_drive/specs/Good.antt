@@ -1,5 +1,7 @@
 -- What a run over a folder keeps: what a crash leaves of a good folder is good, and nothing that stood in it is lost.
 use Rattle.std.specs.Prelude.{◌≡◌, ◌≤◌, ◌<◌, ℕ, ◌+◌, List, [], ◌++◌, length, map, Option, Some, IfSome, IsTrue}
+use Rattle.std.specs.List.{flat_map}
+use Rattle.typed_values.specs.declared.name.TypeName.{TypeName}
 use Rattle.typed_values.specs.declared.address.Address.{Address}
 use Rattle.typed_values.specs.declared.letter.Sender.{Sender}
 use Rattle.typed_values.specs.declared.letter.Sender.TheVariants.{Split, Function}
@@ -9,12 +11,13 @@ use Rattle.sf_outside.specs.declared.call.LinkEvent.{LinkEvent}
 use Rattle.sf_disk.specs.Moments.{Moment, Folder, IsImage, WhereTold, MightHaveLeft, newest}
 use Rattle.address_routing.specs.declared.module.Module.{Module}
 use Rattle.address_routing.specs.Routing.{is_routable, splits_in}
-use Rattle.run_record.specs.Machine.{State}
-use Rattle.folder_form.specs.Folders.{Contents, egress_in, record_of}
+use Rattle.run_record.specs.Machine.{State, arguments_at, first_state}
+use Rattle.run_record.specs.Record.{replayed}
+use Rattle.folder_form.specs.Folders.{Checkpoint, Contents, egress_in, record_of}
 use Rattle.snapshot_files.specs.Opening.{seen}
 use Rattle.egress_commit.specs.Epochs.{Epoch}
 use Rattle.checkpoint_storage.specs.Folders.{Stands}
-use Rattle.checkpoint_state.specs.Meaning.{state_in, IsGood}
+use Rattle.checkpoint_state.specs.Meaning.{state_in, with_only, IsGood}
 use Rattle.statefun_driver.specs.Seen.{Seen}
 use Rattle.statefun_driver.specs.Traces.{IsFront}
 use Rattle.statefun_driver.specs.Runs.{AreModest}
@@ -50,6 +53,19 @@ no_folder file = []
 
 abbrev pub EmptyIsGood : Type 0
 EmptyIsGood = (m : Module) (text : List ℕ) (told : Lists) → HasGood m text told no_folder
+
+-- What is committed is what the sequential machine gave to egresses on the record of the checkpoints up to one of them: of each address
+-- and egress the same values, in the same order.
+pub record IsOfMachine (m : Module) (told : Lists) (contents : Contents) (epochs : List Epoch) : Type 0 where
+  pub front : List Checkpoint
+  pub is_front : IsFront front contents.checkpoints
+  pub last : State
+  pub replays : replayed m told first_state (record_of (with_only front contents)) ≡ Some last
+  pub gave : (address : Address) (name : TypeName) → last.egress address name ≡ arguments_at address name (flat_map (λ (epoch : Epoch). epoch) epochs)
+
+abbrev pub CommittedIsOfMachine : Type 0
+CommittedIsOfMachine =
+    (m : Module) (text : List ℕ) (told : Lists) (folder : Folder) (good : HasGood m text told folder) → IsOfMachine m told good.contents good.epochs
 
 -- ---- what a crash leaves of it
 

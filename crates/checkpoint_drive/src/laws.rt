@@ -1,6 +1,6 @@
 //! What legs and runs come to. The functions do nothing but call such laws of lower crates: their contracts are laws.
 ghost use Rattle.checkpoint_drive.specs.Laws.{LegsCompleteWhatIsGood};
-ghost use Rattle.checkpoint_drive.specs.Good.{EmptyIsGood, RunsKeepGood};
+ghost use Rattle.checkpoint_drive.specs.Good.{CommittedIsOfMachine, EmptyIsGood, RunsKeepGood};
 ghost use Rattle.checkpoint_drive.specs.Lives.{LivesKeepGood, LivesMakeGood};
 
 use checkpoint_state::{
@@ -63,3 +63,9 @@ pub fn what_runs_make_of_nothing_is_good()
     what_many_runs_leave_is_good();
     an_empty_folder_is_good();
 }
+
+/// What is committed in a good folder is what the sequential machine gave to egresses on the record of the checkpoints up to one of
+/// them: nothing twice, nothing left out, and nothing else.
+pub fn what_is_committed_is_of_the_machine()
+    ensures { CommittedIsOfMachine }
+{}
