@@ -5,7 +5,7 @@ use Rattle.sf_outside.specs.Splits.{Lists, GrowTo}
 use Rattle.sf_outside.specs.Answers.{Extends-none}
 use Rattle.sf_outside.specs.declared.call.Exchange.{Exchange}
 use Rattle.sf_outside.specs.declared.call.LinkEvent.{LinkEvent}
-use Rattle.sf_disk.specs.Moments.{Folder, MightHaveLeft}
+use Rattle.sf_disk.specs.Moments.{Moment, Folder, IsImage, MightHaveLeft, newest}
 use Rattle.address_routing.specs.declared.module.Module.{Module}
 use Rattle.address_routing.specs.Routing.{is_routable}
 use Rattle.run_record.specs.Machine.{first_state}
@@ -18,7 +18,7 @@ use Rattle.statefun_driver.specs.Traces.{IsFront}
 use Rattle.statefun_driver.specs.Runs.{AreModest}
 use Rattle.statefun_driver.specs.Stretches.{AreUpTo}
 use Rattle.checkpoint_drive.specs.Laws.{IsBackedBy}
-use Rattle.checkpoint_drive.specs.Good.{AreKept, BeginsGood, HasGood, HasGrown, RunsKeepGood, StaysGood}
+use Rattle.checkpoint_drive.specs.Good.{AreKept, BeginsGood, EndsTruly, HasGood, HasGrown, RunsKeepGood, StaysGood}
 use Rattle.checkpoint_drive.specs.Lives.{AreLives, IsLife, Life, LivesKeepGood, exchanged_in}
 use Rattle.checkpoint_drive.proofs.Whole.{stands_once}
 
@@ -148,7 +148,20 @@ module _ (laws : Laws) (m : Module) (text : List ℕ) (routable : IsTrue (is_rou
       let r = lives_on lives (MightHaveLeft life.old life.new) are.0.later (exchanges ++ life.after.exchanges) last (one_life may one exchanges grown life are.0) are.1 in
       (r.0, subst (λ (l : List Exchange). HasGrown m text told r.0 (Some []) l first last) (append_assoc exchanges life.after.exchanges (exchanged_in lives)) r.1)
 
+  -- how the last one ended
+  pub last_ends : (lives : List Life) (may : Folder → Type 0) (one : Lists) (exchanges : List Exchange)
+      → ((folder : Folder) → may folder → HasGrown m text told one (Some []) exchanges first folder)
+      → (last : Life) (folder : Folder) → AreLives m text may one (lives ++ last ∷ []) folder → (moment : Moment) → newest last.new ≡ Some moment → IsImage moment folder
+      → (now : Lists) × (last.before.lists ≡ Some now) × EndsTruly m text now last.end folder
+  last_ends [] may one exchanges grown last folder are moment is image =
+      (are.0.born.now, are.0.born.lists, (stays_good may one exchanges grown last are.0).ends moment is folder image)
+  last_ends (life ∷ lives) may one exchanges grown last folder are moment is image =
+      last_ends lives (MightHaveLeft life.old life.new) are.0.later (exchanges ++ life.after.exchanges) (one_life may one exchanges grown life are.0) last folder are.1 moment is image
+
+  -- a folder alone
+  pub only : HasGood m text told first → (folder : Folder) → folder ≡ first → HasGrown m text told told (Some []) [] first folder
+  only good folder same = subst (λ (f : Folder). HasGrown m text told told (Some []) [] first f) (sym same) (at_first laws m text told first good)
+
 pub lives_keep_good : Laws → LivesKeepGood
 lives_keep_good laws m text told first last lives routable modest good are =
-    lives_on laws m text routable modest told first lives (λ folder. folder ≡ first) told [] last
-    (λ folder same. subst (λ (f : Folder). HasGrown m text told told (Some []) [] first f) (sym same) (at_first laws m text told first good)) are
+    lives_on laws m text routable modest told first lives (λ folder. folder ≡ first) told [] last (only laws m text routable modest told first good) are

@@ -1,7 +1,7 @@
 //! What legs and runs come to. The functions do nothing but call such laws of lower crates: their contracts are laws.
 ghost use Rattle.checkpoint_drive.specs.Laws.{LegsCompleteWhatIsGood};
 ghost use Rattle.checkpoint_drive.specs.Good.{CommittedIsOfMachine, EmptyIsGood, RunsKeepGood};
-ghost use Rattle.checkpoint_drive.specs.Lives.{LivesKeepGood, LivesMakeGood};
+ghost use Rattle.checkpoint_drive.specs.Lives.{LivesEndDone, LivesKeepGood, LivesMakeGood};
 
 use checkpoint_state::{
     a_checkpoint_behind_a_good_record_is_good, a_later_leg_keeps_what_is_good,
@@ -62,6 +62,17 @@ pub fn what_runs_make_of_nothing_is_good()
 {
     what_many_runs_leave_is_good();
     an_empty_folder_is_good();
+}
+
+/// Where the last of such runs is done, all egress is committed, and nothing is left to do of what stood in the lists when it began.
+pub fn what_many_runs_have_done()
+    ensures { LivesEndDone }
+{
+    what_runs_make_of_nothing_is_good();
+    an_empty_folder_is_good();
+    what_a_run_leaves_is_good();
+    longer_lists_keep_what_is_good();
+    backed_records_go_on();
 }
 
 /// What is committed in a good folder is what the sequential machine gave to egresses on the record of the checkpoints up to one of
