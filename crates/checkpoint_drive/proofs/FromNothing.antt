@@ -78,5 +78,5 @@ lives_end_done laws make empty m text told now folder lives last number moment r
     let made = make m text told folder (lives ++ last ∷ []) routable modest are in
     let e = last_ends laws m text routable modest told no_folder lives (λ f. f ≡ no_folder) told [] (only laws m text routable modest told no_folder (empty m text told)) last folder are moment is image in
     let truly : EndsTruly m text now (Done number) folder =
-        subst (λ (lists : Lists). EndsTruly m text lists (Done number) folder) (over_once last.before.lists e.0 now e.1 began) (subst (λ (end : DriveEnd). EndsTruly m text e.0 end folder) ended e.2) in
+    subst (λ (lists : Lists). EndsTruly m text lists (Done number) folder) (over_once last.before.lists e.0 now e.1 began) (subst (λ (end : DriveEnd). EndsTruly m text e.0 end folder) ended e.2) in
     (made.0, made.1, made.2, done_so m text now made.0 number folder made.1 truly)
