@@ -1,5 +1,5 @@
 -- One leg: its turn, and what closes it.
-use Rattle.std.proofs.Common.{◌≡◌, ◌⊎◌, inl, inr, ℕ, zero, suc, ◌+◌, ◌-◌, ◌<◌, ◌≤◌, ◌^◌, Bool, true, false, ◌&&◌, List, [], ◌∷◌, ◌++◌, length, slice_get, Option, Some, None, Err, option_map, refl, sym, ◌∙◌, ap, subst, arith, append-nil}
+use Rattle.std.proofs.Common.{◌≡◌, ◌⊎◌, inl, inr, ℕ, zero, suc, ◌+◌, ◌-◌, ◌<◌, ◌≤◌, ◌^◌, Bool, true, false, ◌&&◌, List, [], ◌∷◌, ◌++◌, length, slice_get, Option, Some, None, Result, Err, option_map, refl, sym, ◌∙◌, ap, subst, arith, append-nil}
 use Rattle.std.specs.Prelude.{IsTrue}
 use Rattle.std.specs.Option.{option_to_list, is_some}
 use Rattle.sf_disk.specs.Moments.{Moment, Folder, IsImage, Since, Becomes, newest as now_of}
@@ -28,13 +28,14 @@ use Rattle.statefun_driver.specs.Work.{here, plan_of, splits_of}
 use Rattle.statefun_driver.proofs.Tracing.{leads_none, leads_then}
 use Rattle.checkpoint_drive.specs.declared.options.Options.{Options}
 use Rattle.checkpoint_drive.specs.declared.run.Run.{Run}
+use Rattle.checkpoint_drive.specs.declared.end.DriveEnd.{DriveEnd}
 use Rattle.checkpoint_drive.specs.declared.end.DriveEnd.TheVariants.{Refused}
 use Rattle.checkpoint_drive.specs.Drives.{Rest, Leg, IsLeg, IsTaken, behind, behind_with, is_asked, is_held, is_over}
 use Rattle.checkpoint_drive.specs.Laws.{after}
 use Rattle.checkpoint_drive.specs.Images.{IsCommittedUpTo, Reaches, egress_by}
 use Rattle.checkpoint_drive.specs.Begins.{IsReady, rest_of}
 use Rattle.checkpoint_drive.specs.Driven.{HasDiskCause, IsUnderway, IsUnsaved}
-use Rattle.checkpoint_drive.specs.OneLeg.{Gains, IsClosed, IsLeftOpen, HasLeg, FailsLeg, counted, epoch_of}
+use Rattle.checkpoint_drive.specs.OneLeg.{Gains, IsClosed, IsLeftOpen, HasLeg, FailsLeg, MakesLeg, counted, epoch_of}
 use Rattle.checkpoint_drive.proofs.Growing.{reaches_none}
 
 -- ---- what a checkpoint may leave
@@ -211,3 +212,7 @@ store_cause before now DiskFault h = h.1
 store_cause before now (NotAStore file place) h = h
 store_cause before now (StoreOfOther kept given) h = h
 store_cause before now OutOfMemory h = h
+
+pub fails_by : (run now : Run) (origin : Origin) (before after_leg : Seen) (old new : List Moment) (fault : StoreFault) (r : Result Bool DriveEnd)
+    → (y : DriveEnd) × (r ≡ Err y) × (y ≡ Refused fault) → FailsLeg run origin before after_leg old new fault → MakesLeg run now origin before after_leg old new r
+fails_by run now origin before after_leg old new fault r p fails = subst (MakesLeg run now origin before after_leg old new) (sym (p.1 ∙ ap Err p.2)) fails
