@@ -1,7 +1,7 @@
 -- What closes a leg: the checkpoint that was asked for, and the count.
-use Rattle.std.proofs.Common.{◌≡◌, inl, inr, ℕ, ◌+◌, ◌-◌, ◌^◌, ◌<◌, ◌≤◌, Bool, true, false, List, [], ◌++◌, Option, Some, None, Result, Ok, Err, refl, sym, ◌∙◌, ap, subst, arith, append-nil}
+use Rattle.std.proofs.Common.{◌≡◌, inl, inr, ◌+◌, ◌-◌, ◌^◌, ◌<◌, ◌≤◌, true, false, List, Some, None, Result, Ok, Err, refl, sym, ◌∙◌, ap, subst, arith, append-nil}
 use Rattle.std.specs.Prelude.{IsTrue, IsFalse}
-use Rattle.sf_disk.specs.Moments.{Moment, Since, Becomes}
+use Rattle.sf_disk.specs.Moments.{Moment}
 use Rattle.sf_disk.proofs.Onward.{since_now, becomes_now, told_now}
 use Rattle.snapshot_files.specs.Stores.{newest}
 use Rattle.egress_commit.specs.Epochs.{Epoch}
@@ -11,14 +11,14 @@ use Rattle.checkpoint_storage.specs.Folders.{IsKnown, IsStorage}
 use Rattle.address_routing.specs.Routing.{is_routable}
 use Rattle.statefun_driver.specs.declared.job.Job.{Job}
 use Rattle.statefun_driver.specs.Runs.{AreModest}
-use Rattle.statefun_driver.specs.Turns.{Plan, Control, Origin, first_control, origin_of, rested as rests_at}
+use Rattle.statefun_driver.specs.Turns.{Control, Origin, first_control, origin_of, rested as rests_at}
 use Rattle.statefun_driver.specs.Work.{here, plan_of, splits_of}
 use Rattle.checkpoint_drive.specs.declared.options.Options.{Options}
 use Rattle.checkpoint_drive.specs.declared.run.Run.{Run}
-use Rattle.checkpoint_drive.specs.Drives.{behind_with, checkpoint_of, rested}
+use Rattle.checkpoint_drive.specs.Drives.{checkpoint_of, rested}
 use Rattle.checkpoint_drive.specs.Laws.{after}
 use Rattle.checkpoint_drive.specs.Begins.{IsReady, rest_of, shape_of}
-use Rattle.checkpoint_drive.specs.OneLeg.{AreBeside, Closes, IsClosed, IsLeftOpen, IsSame, Saves, counted, epoch_of}
+use Rattle.checkpoint_drive.specs.OneLeg.{AreBeside, Closes, IsClosed, IsLeftOpen, IsSame, Saves, counted}
 use Rattle.checkpoint_drive.proofs.Whole.{first_is}
 
 -- ---- without a checkpoint

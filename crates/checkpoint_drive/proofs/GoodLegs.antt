@@ -1,9 +1,8 @@
 -- Legs keep what checkpoints mean: each checkpoint that they complete is what the machine gives on the record up to it.
-use Rattle.std.proofs.Common.{◌≡◌, ◌⊎◌, inl, inr, ℕ, suc, ◌+◌, ◌<◌, ◌≤◌, Bool, true, false, cond, List, [], ◌∷◌, ◌++◌, length, filter, Option, Some, None, IfSome, refl, sym, ◌∙◌, ap, subst, arith, append_assoc, append-nil, length-append}
+use Rattle.std.proofs.Common.{◌≡◌, ℕ, suc, ◌+◌, ◌≤◌, List, [], ◌∷◌, ◌++◌, Option, Some, None, IfSome, refl, sym, ◌∙◌, ap, subst, arith, append_assoc, append-nil, length-append}
 use Rattle.std.specs.Prelude.{IsTrue, Contains}
 use Rattle.std.proofs.lemmas.List.{get_or_append_left}
-use Rattle.std.specs.List.{AllByRecursion, IsDistinct, flat_map}
-use Rattle.typed_values.specs.declared.record.EgressRecord.{EgressRecord}
+use Rattle.std.specs.List.{AllByRecursion}
 use Rattle.sf_outside.specs.Told.{more}
 use Rattle.sf_outside.specs.Splits.{Lists, GrowTo, Grows}
 use Rattle.sf_outside.specs.Answers.{Extends, Extends-none, Extends-then}
@@ -19,7 +18,7 @@ use Rattle.run_record.specs.declared.entry.Step.TheVariants.{Take, Batch, Regist
 use Rattle.run_record.specs.Machine.{State, first_state, reply_of}
 use Rattle.run_record.specs.Record.{key_before, replayed, step_after}
 use Rattle.actor_rules.specs.Keys.{Rises}
-use Rattle.run_record.specs.Backed.{AreBacked, IsBackedReply, calls_of, same_call}
+use Rattle.run_record.specs.Backed.{AreBacked, IsBackedReply, calls_of}
 use Rattle.run_record.specs.Egress.{egress_of}
 use Rattle.piece_messages.specs.declared.piece.Piece.{Piece}
 use Rattle.folder_form.specs.declared.mark.Mark.{Mark}
@@ -27,9 +26,8 @@ use Rattle.folder_form.specs.declared.loaded.Loaded.{Loaded}
 use Rattle.folder_form.specs.Folders.{Part, Checkpoint, Contents, loaded_of, loaded_from, loaded_checkpoint, nothing_loaded, record_of, with_checkpoint}
 use Rattle.partition_core.specs.Work.{state_of}
 use Rattle.statefun_driver.specs.Seen.{Event, Read, Now, Start as Starts, Poll, Fails, Seen, Hears}
-use Rattle.statefun_driver.specs.Turns.{Plan, Control, Origin, Asking, first_control, goes_on, origin_of}
-use Rattle.statefun_driver.specs.Traces.{Trace, IsFront, turns}
-use Rattle.statefun_driver.specs.Origins.{IsSoundOrigin}
+use Rattle.statefun_driver.specs.Turns.{Plan, Control, Origin, first_control, goes_on, origin_of}
+use Rattle.statefun_driver.specs.Traces.{Trace, IsFront}
 use Rattle.statefun_driver.specs.Runs.{AreModest, link_events}
 use Rattle.statefun_driver.specs.Stretches.{IsStretch, AreRising, AreUpTo, IsBackedBehind, IsEntryOf, IsBetween, IsInTime}
 use Rattle.statefun_driver.specs.Laws.{TracesAreStretches}
@@ -37,8 +35,8 @@ use Rattle.statefun_driver.proofs.Journal.{grows_itself, grows_then, grows_one}
 use Rattle.checkpoint_state.specs.Meaning.{given_by, state_in, moment_of, IsGood}
 use Rattle.checkpoint_state.specs.Laws.{IsNext, IsFrom, HaveGrown, NextKeepsGood, ListsKeepGood, BackingGrows, EntriesLeadToTheNext, EgressBacksNoStep, IsOf}
 use Rattle.checkpoint_drive.specs.declared.options.Options.{Options}
-use Rattle.checkpoint_drive.specs.Laws.{BeginsAt, IsBackedBy, HaveGrownGood, LegsCompleteWhatIsGood, after, after_all}
-use Rattle.checkpoint_drive.specs.Drives.{Rest, Leg, IsLeg, first_rest, AreLegs, IsTaken, IsCheckpointOf, checkpoint_of, behind, behind_with, rested}
+use Rattle.checkpoint_drive.specs.Laws.{BeginsAt, IsBackedBy, LegsCompleteWhatIsGood, after, after_all}
+use Rattle.checkpoint_drive.specs.Drives.{Rest, Leg, IsLeg, first_rest, AreLegs, IsTaken, IsCheckpointOf, behind, behind_with, rested}
 
 -- ---- what lower crates say
 

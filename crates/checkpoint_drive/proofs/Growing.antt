@@ -1,16 +1,14 @@
 -- Legs behind legs: what they complete together, and what a crash leaves while they are made.
-use Rattle.std.proofs.Common.{◌≡◌, ◌⊎◌, inl, inr, ℕ, Bool, true, false, List, [], ◌∷◌, ◌++◌, map, Option, Some, None, refl, sym, ◌∙◌, ap, subst, append_assoc, append-nil}
+use Rattle.std.proofs.Common.{◌≡◌, inl, inr, ℕ, false, List, [], ◌∷◌, ◌++◌, map, Some, refl, sym, ◌∙◌, ap, subst, append_assoc, append-nil}
 use Rattle.std.specs.Option.{option_to_list}
-use Rattle.sf_disk.specs.Moments.{Moment, Folder, IsImage, Since, Becomes, newest}
-use Rattle.sf_disk.proofs.Onward.{since_as, since_then, since_now, becomes_then, at_now}
+use Rattle.sf_disk.specs.Moments.{Moment, Since, Becomes, newest}
+use Rattle.sf_disk.proofs.Onward.{since_as, since_then, becomes_then, at_now}
 use Rattle.folder_form.specs.Folders.{Checkpoint, Contents, egress_in}
 use Rattle.egress_commit.specs.Epochs.{Epoch}
 use Rattle.checkpoint_storage.specs.declared.storage.CheckpointStorage.{CheckpointStorage}
 use Rattle.checkpoint_storage.specs.Folders.{IsStorage, Leaves, Stands, Turns}
-use Rattle.checkpoint_storage.proofs.Images.{storage_stands}
 use Rattle.statefun_driver.specs.Seen.{Seen}
 use Rattle.statefun_driver.specs.Turns.{Plan}
-use Rattle.statefun_driver.specs.Traces.{IsFront}
 use Rattle.checkpoint_drive.specs.declared.options.Options.{Options}
 use Rattle.checkpoint_drive.specs.Drives.{Rest, Leg, AreLegs, IsLeg, behind, completed_by, is_over}
 use Rattle.checkpoint_drive.specs.Laws.{after, after_all}
@@ -61,9 +59,12 @@ reaches_on legs more contents now epochs committed r = record {
   where
     committed_on : IsCommittedUpTo (egress_by r.front) (epochs ++ egress_by legs) committed → IsCommittedUpTo (egress_by (legs ++ r.front)) epochs committed
     committed_on (inl all) = inl (all ∙ append_assoc epochs (egress_by legs) (egress_by r.front) ∙ ap (λ (xs : List Epoch). epochs ++ xs) (sym (egress_append legs r.front)))
-    committed_on (inr (before, last, is, all)) = inr (egress_by legs ++ before, last,
-        egress_append legs r.front ∙ ap (λ (xs : List Epoch). egress_by legs ++ xs) is ∙ sym (append_assoc (egress_by legs) before (last ∷ [])),
-        all ∙ append_assoc epochs (egress_by legs) before)
+    committed_on (inr (before, last, is, all)) = inr (
+      egress_by legs ++ before,
+      last,
+      egress_append legs r.front ∙ ap (λ (xs : List Epoch). egress_by legs ++ xs) is ∙ sym (append_assoc (egress_by legs) before (last ∷ [])),
+      all ∙ append_assoc epochs (egress_by legs) before,
+    )
 
 -- what legs reach, more legs reach
 pub reaches_less : (legs more : List Leg) (contents now : Contents) (epochs committed : List Epoch) → Reaches legs contents epochs now committed → Reaches (legs ++ more) contents epochs now committed

@@ -1,11 +1,10 @@
 -- What the text of a job says of its splits.
-use Rattle.std.proofs.Common.{◌≡◌, ◌∙◌, ap, sym, subst, refl, ℕ, zero, suc, ◌+◌, ◌/◌, ◌%◌, ◌<◌, ◌≤◌, Bool, true, false, not, List, [], ◌∷◌, ◌++◌, map, codes, arith, append_assoc, append-nil, Option, Some, None, cond, sum, slice_get, get_or, length, ap₂, ltb-true, ltb-false}
-use Rattle.std.specs.Prelude.{◌&&◌, ◌||◌, nat_lt, nat_eq, nat_le, ◌==◌, if◌then◌else◌, All, option_and_then, slice_index}
+use Rattle.std.proofs.Common.{◌≡◌, ◌∙◌, ap, sym, subst, refl, ℕ, zero, suc, ◌+◌, ◌/◌, ◌%◌, ◌<◌, ◌≤◌, Bool, true, false, List, [], ◌∷◌, ◌++◌, map, codes, arith, append_assoc, append-nil, Option, Some, None, cond, sum, ap₂, ltb-true, ltb-false}
+use Rattle.std.specs.Prelude.{◌||◌, nat_lt, ◌==◌, All}
 use Rattle.std.specs.Option.{unwrap_or, option_map, option_map_or}
 use Rattle.std.specs.Cmp.{first_so, second_so}
-use Rattle.std.specs.List.{flat_map, list_all, slice_split}
+use Rattle.std.specs.List.{flat_map, list_all}
 use Rattle.std.specs.Fmt.{decimal, digits, digits_onto, digit_glyph}
-use Rattle.std.specs.Str.{bytes_eq}
 use Rattle.std.proofs.lemmas.Bool.Decides.{nat_tests}
 use Rattle.std.proofs.lemmas.List.Sums.{sum_by-cons}
 use Rattle.std.proofs.lemmas.List.Splits.{slice_split_none, slice_split_at}
@@ -18,8 +17,7 @@ use Rattle.address_routing.specs.declared.module.Endpoint.{Endpoint}
 use Rattle.address_routing.specs.declared.module.IngressSpec.{IngressSpec}
 use Rattle.address_routing.specs.JobText.{rest_of_line, line, pattern_text, endpoint_words, ingress_words, endpoint_line, ingress_line, egress_line, job_text}
 use Rattle.address_routing.specs.Routing as routing
-use Rattle.folder_form.specs.declared.shape.Shape.{Shape}
-use Rattle.folder_form.specs.Shapes.{parts_at, lines_of, words_of, number_up_to, splits_of_words, splits_of_line, splits_in, partitions_of_words, partitions_of_lines, partitions_in, shape_in}
+use Rattle.folder_form.specs.Shapes.{lines_of, words_of, number_up_to, splits_of_words, splits_of_line, splits_in, partitions_of_words, partitions_of_lines, partitions_in, shape_in}
 use Rattle.checkpoint_drive.specs.Jobs.{only_partition, folder_text}
 
 -- ---- words, whose bytes are above the space

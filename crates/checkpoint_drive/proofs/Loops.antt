@@ -1,17 +1,15 @@
 -- The legs of a run so far, and how they go on and end.
 use Rattle.std.proofs.Common.{◌≡◌, ℕ, ◌<◌, Bool, true, false, List, [], ◌∷◌, ◌++◌, Err, refl, sym, ◌∙◌, ap, subst, append-nil}
 use Rattle.sf_disk.specs.Moments.{Moment, Since, Becomes}
-use Rattle.sf_disk.proofs.Onward.{since_as, since_now, becomes_now}
+use Rattle.sf_disk.proofs.Onward.{since_now, becomes_now}
 use Rattle.run_record.specs.declared.entry.Entry.{Entry}
-use Rattle.folder_form.specs.Folders.{Contents}
 use Rattle.egress_commit.specs.Epochs.{Epoch}
 use Rattle.snapshot_files.specs.Stores.{newest}
 use Rattle.store_faults.specs.declared.fault.StoreFault.{StoreFault}
-use Rattle.store_faults.specs.Faults.{IsNoRefusal}
 use Rattle.checkpoint_storage.specs.Folders.{IsStorage, Leaves, Turns}
 use Rattle.statefun_driver.specs.declared.end.End.{End}
 use Rattle.statefun_driver.specs.Seen.{Seen}
-use Rattle.statefun_driver.specs.Turns.{Plan, Control, Origin}
+use Rattle.statefun_driver.specs.Turns.{Plan, Origin}
 use Rattle.statefun_driver.specs.Traces.{Ends}
 use Rattle.statefun_driver.specs.Work.{here, plan_of}
 use Rattle.checkpoint_drive.specs.declared.end.DriveEnd.{DriveEnd}
@@ -19,10 +17,10 @@ use Rattle.checkpoint_drive.specs.declared.end.DriveEnd.TheVariants.{Done, Turns
 use Rattle.checkpoint_drive.specs.declared.options.Options.{Options}
 use Rattle.checkpoint_drive.specs.declared.run.Run.{Run}
 use Rattle.checkpoint_drive.specs.Drives.{Rest, Leg, AreLegs, IsLeg, behind, is_over}
-use Rattle.checkpoint_drive.specs.Laws.{after, after_all}
+use Rattle.checkpoint_drive.specs.Laws.{after_all}
 use Rattle.checkpoint_drive.specs.Images.{Reaches, egress_by}
 use Rattle.checkpoint_drive.specs.Begins.{rest_of}
-use Rattle.checkpoint_drive.specs.Driven.{ComesTo, IfWhole, IsUnsaved, MakesLegs, NoneIsLast}
+use Rattle.checkpoint_drive.specs.Driven.{IsUnsaved, MakesLegs, NoneIsLast}
 use Rattle.checkpoint_drive.specs.OneLeg.{FailsLeg, HasLeg, IsSame, MakesLeg}
 use Rattle.checkpoint_drive.proofs.Growing.{becomes_more, legs_then, none_last_then, one_leg, since_more}
 use Rattle.checkpoint_drive.proofs.Stops.{driven_stops}

@@ -14,7 +14,7 @@ use Rattle.piece_messages.specs.declared.address_state.AddressState.{AddressStat
 use Rattle.piece_messages.specs.declared.piece.Piece.{Piece}
 use Rattle.folder_form.specs.declared.mark.Mark.{Mark}
 use Rattle.folder_form.specs.Folders.{takes}
-use Rattle.folder_form.specs.Pieces.{are_cells, are_in_order, latest_in, owns, owns_delay, owns_entry, owns_letter, owns_letters, owns_piece, owns_record, owns_state, owns_step}
+use Rattle.folder_form.specs.Pieces.{are_cells, latest_in, owns, owns_delay, owns_entry, owns_letter, owns_letters, owns_piece, owns_record, owns_state, owns_step}
 use Rattle.checkpoint_storage.specs.Folders.{IsPart, only}
 use Rattle.partition_core.specs.declared.kept_work.KeptWork.{KeptWork}
 use Rattle.partition_core.specs.KeptWork.{IsKeptOf}

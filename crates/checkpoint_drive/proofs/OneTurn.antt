@@ -1,21 +1,18 @@
 -- One leg: its turn, and what closes it.
-use Rattle.std.proofs.Common.{◌≡◌, ◌⊎◌, inl, inr, ℕ, zero, suc, ◌+◌, ◌-◌, ◌<◌, ◌≤◌, ◌^◌, Bool, true, false, ◌&&◌, List, [], ◌∷◌, ◌++◌, length, slice_get, Option, Some, None, Result, Err, option_map, refl, sym, ◌∙◌, ap, subst, arith, append-nil}
+use Rattle.std.proofs.Common.{◌≡◌, inl, inr, ℕ, ◌+◌, ◌<◌, Bool, true, ◌&&◌, List, [], ◌∷◌, ◌++◌, length, slice_get, Option, Some, None, Result, Err, option_map, refl, sym, ◌∙◌, ap, subst, arith, append-nil}
 use Rattle.std.specs.Prelude.{IsTrue}
 use Rattle.std.specs.Option.{option_to_list, is_some}
-use Rattle.sf_disk.specs.Moments.{Moment, Folder, IsImage, Since, Becomes, newest as now_of}
-use Rattle.sf_disk.proofs.Onward.{since_as, becomes_as}
+use Rattle.sf_disk.specs.Moments.{Moment, Since, Becomes}
+use Rattle.sf_disk.proofs.Onward.{since_as}
 use Rattle.address_routing.specs.Routing.{is_routable}
-use Rattle.folder_form.specs.declared.mark.Mark.{Mark}
-use Rattle.piece_messages.specs.declared.piece.Piece.{Piece}
-use Rattle.folder_form.specs.Folders.{Part, Checkpoint, Contents, egress_in, with_checkpoint}
+use Rattle.folder_form.specs.Folders.{Checkpoint, Contents, egress_in, with_checkpoint}
 use Rattle.snapshot_files.specs.Stores.{newest}
 use Rattle.egress_commit.specs.Epochs.{Epoch}
 use Rattle.egress_commit.specs.Outlets.{last_epoch}
 use Rattle.store_faults.specs.declared.fault.StoreFault.{StoreFault}
 use Rattle.store_faults.specs.Faults.{HasStoreCause}
 use Rattle.store_faults.specs.declared.fault.StoreFault.TheVariants.{DiskFault, NotAStore, StoreOfOther, OutOfMemory}
-use Rattle.checkpoint_storage.specs.declared.storage.CheckpointStorage.{CheckpointStorage}
-use Rattle.checkpoint_storage.specs.Folders.{Checkpoints, IsStorage, Leaves, Stands, Turns, with_next}
+use Rattle.checkpoint_storage.specs.Folders.{Leaves, Turns, with_next}
 use Rattle.checkpoint_storage.proofs.Saves.{even_lengths}
 use Rattle.statefun_driver.specs.declared.progress.Progress.{Progress}
 use Rattle.statefun_driver.specs.Seen.{Event, Seen}
@@ -26,17 +23,15 @@ use Rattle.statefun_driver.specs.Runs.{AreModest}
 use Rattle.statefun_driver.specs.Stretches.{IsStretch}
 use Rattle.statefun_driver.specs.Work.{here, plan_of, splits_of}
 use Rattle.statefun_driver.proofs.Tracing.{leads_none, leads_then}
-use Rattle.checkpoint_drive.specs.declared.options.Options.{Options}
 use Rattle.checkpoint_drive.specs.declared.run.Run.{Run}
 use Rattle.checkpoint_drive.specs.declared.end.DriveEnd.{DriveEnd}
 use Rattle.checkpoint_drive.specs.declared.end.DriveEnd.TheVariants.{Refused}
-use Rattle.checkpoint_drive.specs.Drives.{Rest, Leg, IsLeg, IsTaken, behind, behind_with, is_asked, is_held, is_over}
+use Rattle.checkpoint_drive.specs.Drives.{Rest, Leg, IsLeg, IsTaken, behind, behind_with, is_asked, is_held}
 use Rattle.checkpoint_drive.specs.Laws.{after}
-use Rattle.checkpoint_drive.specs.Images.{IsCommittedUpTo, Reaches, egress_by}
+use Rattle.checkpoint_drive.specs.Images.{Reaches, egress_by}
 use Rattle.checkpoint_drive.specs.Begins.{IsReady, rest_of}
-use Rattle.checkpoint_drive.specs.Driven.{HasDiskCause, IsUnderway, IsUnsaved}
+use Rattle.checkpoint_drive.specs.Driven.{HasDiskCause, IsUnderway}
 use Rattle.checkpoint_drive.specs.OneLeg.{Gains, IsClosed, IsLeftOpen, HasLeg, FailsLeg, MakesLeg, counted, epoch_of}
-use Rattle.checkpoint_drive.proofs.Growing.{reaches_none}
 
 -- ---- what a checkpoint may leave
 
@@ -193,17 +188,23 @@ module _ (run : Run) (law : TracesAreStretches) (routable : IsTrue (is_routable 
     where
       by : (taken : Option Checkpoint) → rest_of (h.rest).0 now ≡ behind_with (plan_of run.job) run.options (rest_of origin (record run { progress = progress })) (here progress) taken
           → (next : Origin) × IsUnderway (plan_of run.job) next (here now.progress) after_leg
-      by None is = (origin, record {
-        from = underway.from;
-        leads = subst (λ (c : Control). Leads (plan_of run.job) (first_control (plan_of run.job) origin) underway.from c after_leg) (sym (ap (λ (r : Rest). r.control) is)) now_leads;
-        sound = underway.sound;
-      })
-      by (Some checkpoint) is = (origin_of (here progress), record {
-        from = after_leg;
-        leads = subst (λ (c : Control). Leads (plan_of run.job) (first_control (plan_of run.job) (origin_of (here progress))) after_leg c after_leg) (sym (ap (λ (r : Rest). r.control) is))
-            (leads_none (turns (plan_of run.job)) (first_control (plan_of run.job) (origin_of (here progress))) after_leg);
-        sound = stretch.still still_asking;
-      })
+      by None is = (
+        origin,
+        record {
+          from = underway.from;
+          leads = subst (λ (c : Control). Leads (plan_of run.job) (first_control (plan_of run.job) origin) underway.from c after_leg) (sym (ap (λ (r : Rest). r.control) is)) now_leads;
+          sound = underway.sound;
+        },
+      )
+      by (Some checkpoint) is = (
+        origin_of (here progress),
+        record {
+          from = after_leg;
+          leads = subst (λ (c : Control). Leads (plan_of run.job) (first_control (plan_of run.job) (origin_of (here progress))) after_leg c after_leg) (sym (ap (λ (r : Rest). r.control) is))
+              (leads_none (turns (plan_of run.job)) (first_control (plan_of run.job) (origin_of (here progress))) after_leg);
+          sound = stretch.still still_asking;
+        },
+      )
 
 -- ---- causes
 

@@ -1,10 +1,10 @@
 -- A folder is opened and read, and then a run is begun over it.
-use Rattle.std.proofs.Common.{◌≡◌, ◌≢◌, ◌⊎◌, inl, inr, ℕ, ◌+◌, ◌-◌, ◌^◌, ◌<◌, ◌≤◌, min, Bool, true, false, List, [], ◌∷◌, ◌++◌, length, Option, Some, None, refl, sym, ◌∙◌, ap, subst, arith, append-nil}
+use Rattle.std.proofs.Common.{◌≡◌, ◌⊎◌, inl, inr, ℕ, ◌+◌, ◌-◌, ◌^◌, ◌<◌, ◌≤◌, min, Bool, true, false, List, [], ◌∷◌, length, Option, Some, None, refl, sym, ◌∙◌, ap, subst, arith}
 use Rattle.std.specs.List.{list_all}
 use Rattle.std.proofs.lemmas.Bool.{and_from, and_parts}
 use Rattle.std.proofs.lemmas.List.Folds.{list_all-append}
-use Rattle.sf_disk.specs.Moments.{Moment, Folder, IsImage, WhereTold, Since, Becomes, newest}
-use Rattle.sf_disk.proofs.Onward.{since_as, since_then, becomes_as, becomes_then, told_now, at_now}
+use Rattle.sf_disk.specs.Moments.{Moment, WhereTold, Since, Becomes, newest}
+use Rattle.sf_disk.proofs.Onward.{since_as, since_then, becomes_then, told_now, at_now}
 use Rattle.address_routing.specs.declared.module.Module.{Module}
 use Rattle.address_routing.specs.Routing.{splits_in}
 use Rattle.piece_messages.specs.declared.piece.Piece.{Piece}
@@ -14,7 +14,6 @@ use Rattle.folder_form.specs.Pieces.{latest_in, owns_piece}
 use Rattle.std.specs.Prelude.{IsTrue, IsFalse, nat_le, get_or}
 use Rattle.folder_form.specs.Folders.{Contents, loaded_of, with_leg}
 use Rattle.snapshot_files.specs.declared.store.Store.{Store}
-use Rattle.snapshot_files.specs.Opening.{seen}
 use Rattle.snapshot_files.specs.Reading.{AreOwned, FitsShape, IsUntold}
 use Rattle.snapshot_files.specs.Stores as stores
 use Rattle.snapshot_files.specs.Stores.{home_in}
@@ -41,8 +40,8 @@ use Rattle.address_routing.specs.Routing.{is_routable}
 use Rattle.checkpoint_drive.specs.declared.options.Options.{Options}
 use Rattle.checkpoint_drive.specs.declared.opening.Start.{Start}
 use Rattle.checkpoint_drive.specs.declared.run.Run.{Run}
-use Rattle.checkpoint_drive.specs.Images.{MayLeave, RunsOn, Reaches, IsAsBefore, IsLedBy, begun_run, most_legs}
-use Rattle.checkpoint_drive.specs.Begins.{Begins, IsBegun, IsReady, RefusesOpening, stored_origin, RefusesLoaded, IsRefused, reaches_all, reaches_work, shape_of}
+use Rattle.checkpoint_drive.specs.Images.{MayLeave, RunsOn, Reaches, begun_run, most_legs}
+use Rattle.checkpoint_drive.specs.Begins.{Begins, IsBegun, IsReady, RefusesOpening, stored_origin, RefusesLoaded, reaches_all, reaches_work, shape_of}
 use Rattle.checkpoint_drive.specs.Starts.{HasRead, IsUnfit, Reads, origin_at, start_from}
 use Rattle.checkpoint_drive.proofs.Growing.{reaches_none}
 

@@ -1,5 +1,5 @@
 -- What saving a checkpoint leaves, told of the run.
-use Rattle.std.proofs.Common.{◌≡◌, inl, inr, ℕ, List, [], ◌∷◌, ◌++◌, length, slice_get, option_map, Option, Some, Result, Ok, Err, refl, sym, ◌∙◌, ap, subst}
+use Rattle.std.proofs.Common.{◌≡◌, inr, List, [], ◌∷◌, ◌++◌, length, slice_get, option_map, Option, Some, Result, Ok, Err, refl, sym, ◌∙◌, ap, subst}
 use Rattle.std.specs.Option.{option_to_list}
 use Rattle.sf_disk.specs.Moments.{Moment, Since, Becomes}
 use Rattle.sf_disk.proofs.Onward.{becomes_as}
@@ -55,8 +55,13 @@ module _ (run now : Run) (storage : CheckpointStorage) (same : storage ≡ run.s
         (subst (λ (l : List Letter). Becomes old new (Turns storage now.storage (λ contents epochs. with_checkpoint mark (the_part piece l) contents) (λ contents epochs. with_next (with_checkpoint mark (the_part piece l) contents) epochs))) none saved)
 
     pub save_stands : Saves run now old new (Ok tt)
-    save_stands = (mark, piece, is_saving, becomes_as old new
-        (Turns run.storage now.storage (λ contents epochs. with_checkpoint mark one.parts contents) (λ contents epochs. with_next (with_checkpoint mark one.parts contents) epochs))
-        (Turns run.storage now.storage (λ contents epochs. after contents (Some one)) (λ contents epochs. epochs ++ egress_in one ∷ [])) named
-        (λ m n told turns contents epochs is_storage. subst (λ (e : List Epoch). IsStorage now.storage (with_checkpoint mark one.parts contents) e n)
-            (next_given contents epochs one (even_lengths run.storage even contents epochs m is_storage)) (turns contents epochs is_storage)))
+    save_stands = (
+      mark,
+      piece,
+      is_saving,
+      becomes_as old new
+          (Turns run.storage now.storage (λ contents epochs. with_checkpoint mark one.parts contents) (λ contents epochs. with_next (with_checkpoint mark one.parts contents) epochs))
+          (Turns run.storage now.storage (λ contents epochs. after contents (Some one)) (λ contents epochs. epochs ++ egress_in one ∷ [])) named
+          (λ m n told turns contents epochs is_storage. subst (λ (e : List Epoch). IsStorage now.storage (with_checkpoint mark one.parts contents) e n)
+          (next_given contents epochs one (even_lengths run.storage even contents epochs m is_storage)) (turns contents epochs is_storage)),
+    )

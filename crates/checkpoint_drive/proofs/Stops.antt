@@ -1,10 +1,9 @@
 -- Turns that are driven one by one never end by themselves.
-use Rattle.std.proofs.Common.{◌≡◌, refl, sym, subst, ℕ, ◌+◌, List, [], ◌∷◌, length, Bool, true, false, cond, not, slice_get, Option, Some, None, nat_lt, nat_le}
+use Rattle.std.proofs.Common.{◌≡◌, sym, subst, ℕ, ◌+◌, List, [], ◌∷◌, length, Bool, true, false, cond, not, slice_get, Option, Some, None, nat_lt, nat_le}
 use Rattle.std.specs.Prelude.{◌^◌, ◌&&◌, ◌||◌}
 use Rattle.sf_outside.specs.declared.ingress.IngressRecord.{IngressRecord}
 use Rattle.sf_outside.specs.declared.call.Call.{Call}
 use Rattle.sf_outside.specs.declared.call.Answered.{Answered}
-use Rattle.sf_outside.specs.declared.call.Outcome.{Outcome}
 use Rattle.typed_values.specs.declared.address.Address.{Address}
 use Rattle.typed_values.specs.declared.letter.Letter.{Letter}
 use Rattle.address_routing.specs.declared.module.Module.{Module}
@@ -19,14 +18,13 @@ use Rattle.run_record.specs.declared.entry.Step.TheVariants as step
 use Rattle.run_record.specs.Machine.{served, declared}
 use Rattle.partition_core.specs.declared.bounds.Bounds.{Bounds}
 use Rattle.partition_core.specs.Batches.{batch_at}
-use Rattle.statefun_driver.specs.declared.end.Broken.{Broken}
 use Rattle.statefun_driver.specs.declared.end.Broken.TheVariants as broken
 use Rattle.statefun_driver.specs.declared.end.End.{End}
 use Rattle.statefun_driver.specs.declared.end.End.TheVariants.{Done, TurnsSpent, RecordTooLarge, BatchTooLarge, EndpointFailed, Broke}
 use Rattle.statefun_driver.specs.Seen.{Event, Read, Now, Start, Poll, Fails, Seen}
 use Rattle.statefun_driver.specs.Turns.{Plan, Control, Phase, Reading, Asking, Opening, Waiting, Stopped, Asked, Came, Answers, Failed, IsAsked, at, quota, dues, goes_on}
 use Rattle.statefun_driver.specs.Turns.{taken_in, is_done, finish, opening, bounds_of, opened_by, open_batch, serve_first, serve, send_due, read_from, read_on, read, attempts_at, tried_phase, with_reason}
-use Rattle.statefun_driver.specs.Turns.{begun, take_record, size_of, longest, answered, settled, fated, came, came_of, wait, polled, patience_at, own_part, own_now, recorded, reply_to}
+use Rattle.statefun_driver.specs.Turns.{begun, take_record, size_of, longest, answered, settled, fated, came, wait, polled, patience_at, own_part, own_now, recorded, reply_to}
 use Rattle.statefun_driver.specs.Traces.{Ends, IsEnd, turns}
 use Rattle.statefun_driver.proofs.Tracing.{along}
 use Rattle.checkpoint_drive.specs.Driven.{IsStop}

@@ -1,12 +1,10 @@
 -- What a checkpoint keeps is work from which turns may begin.
-use Rattle.std.proofs.Common.{◌≡◌, ◌⊎◌, inl, inr, refl, sym, ap, subst, ℕ, ◌+◌, ◌≤◌, max, List, [], ◌∷◌, ◌++◌, map, Bool, true, false, cond, Option, Some, None, arith}
-use Rattle.std.specs.Prelude.{◌&&◌, nat_le}
+use Rattle.std.proofs.Common.{inl, inr, sym, subst, ℕ, ◌+◌, ◌≤◌, max, List, [], ◌∷◌, ◌++◌, map, Bool, true, false, cond, Option, Some, arith}
+use Rattle.std.specs.Prelude.{nat_le}
 use Rattle.std.specs.Cmp.{second_so}
 use Rattle.std.proofs.lemmas.Bool.{leb-true}
 use Rattle.std.specs.Option.{option_map_or}
-use Rattle.std.specs.List.{AllByRecursion, flat_map}
 use Rattle.typed_values.specs.declared.address.Address.{Address}
-use Rattle.typed_values.specs.declared.cells.Cell.{Cell}
 use Rattle.typed_values.specs.Sameness.{same_address}
 use Rattle.address_routing.specs.declared.module.Module.{Module}
 use Rattle.piece_messages.specs.declared.cell_state.CellState.{CellState}
@@ -16,7 +14,6 @@ use Rattle.piece_messages.specs.Stands.{cell_of, cells_at, seen_at, state_at}
 use Rattle.folder_form.specs.declared.shape.Shape.{Shape}
 use Rattle.folder_form.specs.declared.loaded.Loaded.{Loaded}
 use Rattle.folder_form.specs.Pieces.{latest_cell, latest_in, latest_state, owns_piece}
-use Rattle.folder_form.specs.Folders.{nothing_loaded}
 use Rattle.snapshot_files.specs.Stores.{home_in}
 use Rattle.snapshot_files.specs.Reading.{AreOwned, FitsShape}
 use Rattle.checkpoint_state.specs.Stored.{states_in, delays_in, letters_in, on_the_way}

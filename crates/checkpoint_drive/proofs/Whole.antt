@@ -1,38 +1,34 @@
 -- A run over a folder as a whole: the opening, and the legs behind it.
-use Rattle.std.proofs.Common.{◌≡◌, ◌⊎◌, inl, inr, ℕ, Bool, true, false, cond, nat_lt, List, [], ◌∷◌, ◌++◌, length, Option, Some, None, refl, sym, ◌∙◌, ap, subst}
+use Rattle.std.proofs.Common.{◌≡◌, ◌⊎◌, inl, inr, ℕ, Bool, true, false, cond, nat_lt, List, [], ◌∷◌, ◌++◌, length, Some, refl, sym, ◌∙◌, ap, subst}
 use Rattle.std.specs.Prelude.{◌||◌}
-use Rattle.sf_disk.specs.Moments.{Moment, Folder, IsImage, WhereTold, Since, Becomes, newest}
+use Rattle.sf_disk.specs.Moments.{Moment, Folder, WhereTold, Since, Becomes, newest}
 use Rattle.sf_disk.proofs.Onward.{since_as, since_then, becomes_then, at_now, told_now}
 use Rattle.block_log.specs.Blocks.{Body}
 use Rattle.block_log.proofs.Unique.{stands_for_one}
-use Rattle.run_record.specs.declared.entry.Entry.{Entry}
 use Rattle.address_routing.specs.declared.module.Module.{Module}
-use Rattle.folder_form.specs.declared.loaded.Loaded.{Loaded}
-use Rattle.folder_form.specs.Folders.{Contents, Held, loaded_of}
+use Rattle.folder_form.specs.Folders.{Contents, loaded_of}
 use Rattle.snapshot_files.specs.Opening.{seen, contents_in}
 use Rattle.snapshot_files.specs.Stores as stores
 use Rattle.snapshot_files.proofs.OneThing.{one_thing}
-use Rattle.egress_commit.specs.Epochs.{Epoch, HasEpochs, epochs_from}
+use Rattle.egress_commit.specs.Epochs.{Epoch, epochs_from}
 use Rattle.store_faults.specs.declared.fault.StoreFault.{StoreFault}
 use Rattle.checkpoint_storage.specs.declared.storage.CheckpointStorage.{CheckpointStorage}
-use Rattle.checkpoint_storage.specs.Folders.{IsKnown, IsStorage, Leaves, Stands, Turns, with_next}
+use Rattle.checkpoint_storage.specs.Folders.{IsKnown, Leaves, Stands, Turns, with_next}
 use Rattle.checkpoint_storage.proofs.Images.{storage_stands}
-use Rattle.statefun_driver.specs.declared.end.End.{End}
-use Rattle.statefun_driver.specs.Seen.{Event, Objects, Seen}
+use Rattle.statefun_driver.specs.Seen.{Seen}
 use Rattle.statefun_driver.specs.declared.end.End.TheVariants.{TurnsSpent as TurnsEnd}
-use Rattle.statefun_driver.specs.Turns.{Plan, Control, Origin, Asking, Stopped as Stops, at, first_control, rested, taken_in}
-use Rattle.statefun_driver.specs.Traces.{Trace, Ends, turns}
+use Rattle.statefun_driver.specs.Turns.{Plan, Origin, Asking, Stopped as Stops, at, first_control, rested, taken_in}
 use Rattle.statefun_driver.specs.Work.{here, plan_of}
 use Rattle.statefun_driver.proofs.Journal.{objects_along, objects_stay}
 use Rattle.checkpoint_drive.specs.declared.end.DriveEnd.{DriveEnd}
 use Rattle.checkpoint_drive.specs.declared.end.DriveEnd.TheVariants.{Done, TurnsSpent, Refused, Stopped}
 use Rattle.checkpoint_drive.specs.declared.options.Options.{Options}
 use Rattle.checkpoint_drive.specs.declared.run.Run.{Run}
-use Rattle.checkpoint_drive.specs.Drives.{Rest, Leg, AreLegs, IsLeg, behind, first_rest}
+use Rattle.checkpoint_drive.specs.Drives.{Rest, Leg, AreLegs, behind, first_rest}
 use Rattle.checkpoint_drive.specs.Laws.{after_all}
 use Rattle.checkpoint_drive.specs.Images.{MayLeave, Reaches, RunsOn, IsAsBefore, IsLedBy, begun_run, egress_by, most_legs}
 use Rattle.checkpoint_drive.specs.Begins.{Begins, IsBegun, RefusesOpening, driven_plan, rest_of, stored_origin}
-use Rattle.checkpoint_drive.specs.Driven.{ComesTo, EndBy, HasRun, IfWhole, IsDriven, IsUnderway, IsUnsaved, MakesLegs, StandsFor, WasRefused}
+use Rattle.checkpoint_drive.specs.Driven.{ComesTo, EndBy, HasRun, IfWhole, IsDriven, IsUnderway, IsUnsaved, MakesLegs, StandsFor}
 use Rattle.checkpoint_drive.proofs.Growing.{reaches_less}
 use Rattle.checkpoint_drive.proofs.Stored.{stored_sound}
 
@@ -44,8 +40,9 @@ epochs_once number one other a b same is_a is_b = let both : epochs_from number 
 pub stands_once : (text : List ℕ) (folder : Folder) (contents also : Contents) (epochs committed : List Epoch)
     → Stands text folder contents epochs → Stands text folder also committed → (contents ≡ also) × (epochs ≡ committed)
 stands_once text folder contents also epochs committed a b = (
-    a.contents_are ∙ ap contents_in (one_thing folder a.form b.form a.has_form b.has_form) ∙ sym b.contents_are,
-    epochs_once 1 (a.has_epochs).0 (b.has_epochs).0 epochs committed (stands_for_one (folder 1) (a.has_epochs).0 (b.has_epochs).0 (a.has_epochs).1 (b.has_epochs).1) (a.has_epochs).2 (b.has_epochs).2)
+  a.contents_are ∙ ap contents_in (one_thing folder a.form b.form a.has_form b.has_form) ∙ sym b.contents_are,
+  epochs_once 1 (a.has_epochs).0 (b.has_epochs).0 epochs committed (stands_for_one (folder 1) (a.has_epochs).0 (b.has_epochs).0 (a.has_epochs).1 (b.has_epochs).1) (a.has_epochs).2 (b.has_epochs).2,
+)
 
 -- ---- refused
 

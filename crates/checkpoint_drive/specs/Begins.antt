@@ -2,7 +2,7 @@
 use Rattle.std.specs.Prelude.{◌≡◌, ◌≤◌, ◌<◌, ◌⊎◌, ℕ, ◌+◌, ◌-◌, ◌^◌, Bool, true, false, IsTrue, IsFalse, List, ◌++◌, length, ◌&&◌}
 use Rattle.std.specs.Option.{is_some}
 use Rattle.std.specs.List.{list_all}
-use Rattle.sf_disk.specs.Moments.{Moment, WhereTold, Since, Becomes}
+use Rattle.sf_disk.specs.Moments.{Moment, WhereTold, Becomes}
 use Rattle.typed_values.specs.declared.letter.Letter.{Letter}
 use Rattle.typed_values.specs.declared.record.Delay.{Delay}
 use Rattle.address_routing.specs.declared.module.Module.{Module}
@@ -16,7 +16,7 @@ use Rattle.snapshot_files.specs.Stores.{newest}
 use Rattle.egress_commit.specs.Epochs.{Epoch}
 use Rattle.egress_commit.specs.Outlets.{last_epoch}
 use Rattle.store_faults.specs.declared.fault.StoreFault.{StoreFault}
-use Rattle.store_faults.specs.declared.fault.StoreFault.TheVariants.{DiskFault, NotAStore, StoreOfOther, OutOfMemory}
+use Rattle.store_faults.specs.declared.fault.StoreFault.TheVariants.{NotAStore}
 use Rattle.checkpoint_storage.specs.Folders.{IsFar, IsStorage, RefusesStorage, Stands, with_next}
 use Rattle.partition_core.specs.KeptWork.{kept_work}
 use Rattle.checkpoint_state.specs.Stored.{states_in, delays_in, letters_in, on_the_way}

@@ -1,5 +1,5 @@
 -- What a run over a folder does: its legs, where they end, and what stands in the folder at each moment.
-use Rattle.std.specs.Prelude.{◌≡◌, ◌<◌, ◌⊎◌, ℕ, ◌+◌, List, [], ◌∷◌, ◌++◌, length, Bool, true, false}
+use Rattle.std.specs.Prelude.{◌≡◌, ◌<◌, ◌⊎◌, ℕ, ◌+◌, List, [], ◌∷◌, ◌++◌, length, true, false}
 use Rattle.sf_outside.specs.Told.{Rose}
 use Rattle.sf_disk.specs.Moments.{Moment, Folder, IsImage, WhereTold, Since, Becomes}
 use Rattle.address_routing.specs.declared.module.Module.{Module}

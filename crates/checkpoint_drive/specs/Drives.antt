@@ -1,15 +1,14 @@
 -- A run over a folder: legs, one after the other, and checkpoints between them.
-use Rattle.std.specs.Prelude.{◌≡◌, ◌≤◌, ◌⊎◌, ℕ, ◌+◌, ◌%◌, nat_lt, nat_eq, get_or, List, [], ◌∷◌, ◌++◌, length, map, filter, not, Bool, true, false, ◌&&◌, ◌||◌, if◌then◌else◌, Option, Some, None}
+use Rattle.std.specs.Prelude.{◌≡◌, ℕ, ◌+◌, ◌%◌, nat_lt, nat_eq, get_or, List, [], ◌∷◌, ◌++◌, length, filter, not, Bool, false, ◌&&◌, ◌||◌, Option, Some, None}
 use Rattle.std.specs.Option.{option_to_list, is_some}
-use Rattle.typed_values.specs.declared.letter.Letter.{Letter}
 use Rattle.batch_queue.specs.Post.{IsAll}
 use Rattle.address_routing.specs.Routing.{splits_in}
 use Rattle.run_record.specs.Egress.{egress_of}
 use Rattle.piece_messages.specs.declared.piece.Piece.{Piece}
 use Rattle.piece_messages.specs.Stands.{cells_at, seen_at}
 use Rattle.folder_form.specs.declared.mark.Mark.{Mark}
-use Rattle.folder_form.specs.Folders.{Part, Checkpoint, takes}
-use Rattle.partition_core.specs.Work.{Work, is_idle, is_empty}
+use Rattle.folder_form.specs.Folders.{Checkpoint, takes}
+use Rattle.partition_core.specs.Work.{is_idle, is_empty}
 use Rattle.statefun_driver.specs.Seen.{Event, Seen}
 use Rattle.statefun_driver.specs.Turns.{Plan, Control, Origin, Asking, first_control, is_done, origin_of}
 use Rattle.statefun_driver.specs.Traces.{Trace}

@@ -1,7 +1,6 @@
 -- What a crash leaves of a folder while legs are made over it.
-use Rattle.std.specs.Prelude.{◌≡◌, ◌≤◌, ◌⊎◌, ℕ, ◌+◌, ◌-◌, ◌^◌, min, List, [], ◌∷◌, ◌++◌, map}
+use Rattle.std.specs.Prelude.{◌≡◌, ◌⊎◌, ℕ, ◌+◌, ◌-◌, ◌^◌, min, List, [], ◌∷◌, ◌++◌, map}
 use Rattle.sf_disk.specs.Moments.{Moment, Folder, IsImage}
-use Rattle.folder_form.specs.declared.loaded.Loaded.{Loaded}
 use Rattle.folder_form.specs.Folders.{Contents, egress_in, with_leg}
 use Rattle.snapshot_files.specs.Opening.{seen}
 use Rattle.egress_commit.specs.Epochs.{Epoch}

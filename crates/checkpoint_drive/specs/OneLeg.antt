@@ -1,11 +1,11 @@
 -- What one leg of a run over a folder does: a turn, and behind it the checkpoint that is asked for.
-use Rattle.std.specs.Prelude.{◌≡◌, ◌⊎◌, ℕ, ◌+◌, List, [], ◌∷◌, ◌++◌, map, not, Bool, true, false, ◌&&◌, Option, Some, None, Result, Ok, Err}
+use Rattle.std.specs.Prelude.{◌≡◌, ◌⊎◌, ℕ, ◌+◌, List, [], ◌∷◌, ◌++◌, map, not, Bool, true, ◌&&◌, Option, Some, None, Result, Ok, Err}
 use Rattle.std.specs.Option.{option_to_list, is_some}
 use Rattle.sf_disk.specs.Moments.{Moment, Since, Becomes}
 use Rattle.run_record.specs.declared.entry.Entry.{Entry}
 use Rattle.piece_messages.specs.declared.piece.Piece.{Piece}
 use Rattle.folder_form.specs.declared.mark.Mark.{Mark}
-use Rattle.folder_form.specs.Folders.{Checkpoint, Contents, egress_in}
+use Rattle.folder_form.specs.Folders.{Checkpoint, egress_in}
 use Rattle.snapshot_files.specs.Stores.{newest}
 use Rattle.egress_commit.specs.Epochs.{Epoch}
 use Rattle.store_faults.specs.declared.fault.StoreFault.{StoreFault}
@@ -19,7 +19,7 @@ use Rattle.statefun_driver.specs.Work.{here, plan_of}
 use Rattle.checkpoint_drive.specs.declared.end.DriveEnd.{DriveEnd}
 use Rattle.checkpoint_drive.specs.declared.end.DriveEnd.TheVariants.{Done, TurnsSpent, Refused, Stopped}
 use Rattle.checkpoint_drive.specs.declared.run.Run.{Run}
-use Rattle.checkpoint_drive.specs.Drives.{Rest, Leg, IsLeg, IsCheckpointOf, IsTaken, behind, behind_with, checkpoint_of, is_held, is_over}
+use Rattle.checkpoint_drive.specs.Drives.{Leg, IsLeg, IsCheckpointOf, IsTaken, behind, behind_with, checkpoint_of, is_held, is_over}
 use Rattle.checkpoint_drive.specs.Laws.{after}
 use Rattle.checkpoint_drive.specs.Images.{Reaches, egress_by}
 use Rattle.checkpoint_drive.specs.Begins.{rest_of}

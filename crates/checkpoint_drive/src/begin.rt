@@ -101,7 +101,8 @@ pub(crate) fn check_targets(routes: &Routes, kept: &KeptWork) -> Result<(), Stor
     ensures { MatchResult result (λ _. reaches_work routes.now kept.now.letters kept.now.delays ≡ true)
         (λ fault. (fault ≡ IsNoStore 2 0) × (reaches_work routes.now kept.now.letters kept.now.delays ≡ false)) }
 {
-    if reach_letters(routes, kept.letters.as_slice()) && reach_delays(routes, kept.delays.as_slice())
+    if reach_letters(routes, kept.letters.as_slice())
+        && reach_delays(routes, kept.delays.as_slice())
     {
         return Ok(());
     }

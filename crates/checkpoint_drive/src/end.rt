@@ -9,14 +9,9 @@ use store_faults::StoreFault;
 #[derive(Drop)]
 pub enum DriveEnd {
     /// No split has more records, nothing is left to do, and all is in the checkpoint of that number, the newest.
-    Done {
-        checkpoint: u64,
-    },
+    Done { checkpoint: u64 },
     /// All legs were made; the newest checkpoint has that number, 0 for none.
-    TurnsSpent {
-        checkpoint: u64,
-        legs: u64,
-    },
+    TurnsSpent { checkpoint: u64, legs: u64 },
     /// The folder cannot be opened, read or written.
     Refused(StoreFault),
     /// A leg's turn ended the run.

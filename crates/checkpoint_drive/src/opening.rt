@@ -122,7 +122,7 @@ fn begin<D: Disk>(
     requires is_known { IsKnown storage.old (D.moments disk.old) }
     ensures meanwhile { Since (D.moments disk.old) (D.moments disk.new) (Leaves storage.old (RunsOn options [])) }
     ensures begun { OnOk result (Becomes (D.moments disk.old) (D.moments disk.new)
-      (Turns storage.old storage.new (λ contents epochs. begun_run options contents) with_next)) }
+        (Turns storage.old storage.new (λ contents epochs. begun_run options contents) with_next)) }
     ensures reached { OnOk result (reaches_work routes.now kept.now.letters kept.now.delays ≡ true) }
     ensures most { IfOk result (λ most. most ≡ most_legs options storage.old.store.stored_leg) }
     ensures newest { OnOk result (newest storage.new.store ≡ newest storage.old.store) }
@@ -132,7 +132,7 @@ fn begin<D: Disk>(
     ensures usable { OnOk result (IsFalse storage.new.store.spent) }
     ensures open { OnOk result (IsFalse storage.new.outlet.spent) }
     ensures refuses { IfErr result (RefusesBy (λ file place. IsUntold (D.moments disk.old) (NotAStore file place)
-      ⊎ IsUnfit routes.now storage.old kept.now file place)) }
+        ⊎ IsUnfit routes.now storage.old kept.now file place)) }
     ensures cause { HasStoreCause (D.faults disk.old) (D.faults disk.new) result }
 {
     storage.catch_up(disk)?;

@@ -1,4 +1,4 @@
-use Rattle.std.proofs.Common.{rules, ℕ, ◌≡◌, ◌+◌}
+use Rattle.std.proofs.Common.{rules, ◌≡◌, ◌+◌}
 use Rattle.checkpoint_drive.specs.Images.{most_legs}
 use Rattle.checkpoint_drive.proofs.Openings.{committing, still_known, beginning, has_begun}
 use Rattle.checkpoint_drive.proofs.opening.begin.Goals as goal

@@ -1,6 +1,6 @@
-use Rattle.std.proofs.Common.{◌≡◌, Bool, true, false, subst, sym}
+use Rattle.std.proofs.Common.{Bool, false, subst, sym}
 use Rattle.checkpoint_drive.specs.declared.run.Run.{Run}
-use Rattle.checkpoint_drive.specs.OneLeg.{Closes, IsClosed, counted}
+use Rattle.checkpoint_drive.specs.OneLeg.{Closes, IsClosed}
 use Rattle.checkpoint_drive.proofs.Closing.{closed_without}
 use Rattle.checkpoint_drive.proofs.run.Run.close.Goals as goal
 

@@ -1,4 +1,4 @@
-use Rattle.std.proofs.Common.{◌≡◌, true, ap, subst, sym}
+use Rattle.std.proofs.Common.{true, subst, sym}
 use Rattle.std.proofs.lemmas.Result.{err_from_is_err_and}
 use Rattle.checkpoint_storage.specs.Folders.{IsKnown}
 use Rattle.checkpoint_drive.specs.declared.run.Run.{Run}

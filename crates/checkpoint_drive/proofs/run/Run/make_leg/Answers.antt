@@ -1,4 +1,4 @@
-use Rattle.std.proofs.Common.{◌≡◌, ℕ, ◌&&◌, subst, sym, ap, refl, ◌∙◌}
+use Rattle.std.proofs.Common.{◌&&◌, subst, sym, ap, ◌∙◌}
 use Rattle.std.proofs.lemmas.Result.{err_from_is_err_and}
 use Rattle.snapshot_files.specs.Stores.{newest}
 use Rattle.statefun_driver.specs.Turns.{Plan}
@@ -6,7 +6,7 @@ use Rattle.statefun_driver.specs.Work.{here, plan_of}
 use Rattle.checkpoint_drive.specs.declared.run.Run.{Run}
 use Rattle.checkpoint_drive.specs.Drives.{is_held}
 use Rattle.checkpoint_drive.specs.Driven.{IsUnderway}
-use Rattle.checkpoint_drive.specs.OneLeg.{Closes, IsClosed, IsLeftOpen}
+use Rattle.checkpoint_drive.specs.OneLeg.{IsClosed, IsLeftOpen}
 use Rattle.checkpoint_drive.proofs.OneTurn.{fails_by, leg_closed, leg_left_open, stretch, underway_on}
 use Rattle.checkpoint_drive.proofs.run.Run.make_leg.Goals as goal
 
@@ -39,5 +39,5 @@ returns-clause-underway g c =
     let underway = c.requires.underway in
     let now = c.close.new.self in
     let on = underway_on run c.what_turns_come_to.ensures c.requires.ready.routable c.requires.ready.modest _ _ underway.0 underway.1 c.turn.new.self.progress (c.in_ok-done.ensures.turned).0
-        now c.is_asked-asked.result _ _ (subst (λ (r : Run). IsClosed r now underway.0 c.is_asked-asked.result (g.D.Disk.moments c.args.disk.now) (g.D.Disk.moments c.close.new.disk)) c.turn.ensures.others (c.in_ok-close.ensures.closes underway.0)) in
+    now c.is_asked-asked.result _ _ (subst (λ (r : Run). IsClosed r now underway.0 c.is_asked-asked.result (g.D.Disk.moments c.args.disk.now) (g.D.Disk.moments c.close.new.disk)) c.turn.ensures.others (c.in_ok-close.ensures.closes underway.0)) in
     (on.0, subst (λ (plan : Plan). IsUnderway plan on.0 (here now.progress) (g.O.Outside.seen c.turn.new.outside)) (sym (ap plan_of (c.close.ensures.same.job ∙ ap (λ (r : Run). r.job) c.turn.ensures.others))) on.1)

@@ -1,5 +1,4 @@
 use Rattle.std.proofs.Common.{◌≡◌, ◌∙◌, ◌+◌, ◌<◌, ◌≤◌, ℕ, refl, sym, ap, subst, arith}
-use Rattle.checkpoint_drive.specs.OneLeg.{IsSame}
 use Rattle.checkpoint_drive.proofs.Loops.{leg_ends, leg_on, leg_over, legs_spent, none_so_far, same_itself, same_then}
 use Rattle.checkpoint_drive.proofs.run.Run.make_legs.Goals as goal
 

@@ -1,4 +1,4 @@
-use Rattle.std.proofs.Common.{◌≡◌, ℕ}
+use Rattle.std.proofs.Common.{◌≡◌}
 use Rattle.statefun_driver.specs.Turns.{Origin}
 use Rattle.statefun_driver.specs.Work.{here, plan_of}
 use Rattle.checkpoint_storage.specs.Folders.{IsKnown}

@@ -1,4 +1,4 @@
-use Rattle.std.proofs.Common.{rules, ℕ, ◌≡◌, ◌≤◌, ◌<◌, refl, subst, arith}
+use Rattle.std.proofs.Common.{rules, ◌≤◌, ◌<◌, refl, subst, arith}
 use Rattle.std.specs.Prelude.{◌^◌, IsTrue}
 use Rattle.std.proofs.lemmas.Result.{err_from_is_err_and}
 use Rattle.address_routing.specs.declared.module.Module.{Module}
@@ -38,8 +38,8 @@ returns-clause-begun g c =
     let routable : IsTrue (is_routable c.args.routes) = subst (λ (r : Module). IsTrue (is_routable r)) c.routes.view_is c.routes.invariant.0 in
     let counted = c.in_ok-progress.ensures.splits in
     let ready =
-        first_ready c.args.routes c.args.options storage start _ stored c.in_ok-progress.ensures.here small c.stored_leg-stored.ensures numbered c.in_ok-most.ensures.most refl
-        c.driven-job.ensures.rests c.driven-job.ensures.turns c.driven-job.ensures.routes routable c.requires.modest counted
-        has.shape c.in_ok-most.ensures.shape c.in_ok-most.ensures.usable c.in_ok-most.ensures.open c.in_ok-most.ensures.even c.in_ok-most.ensures.newest c.requires.every in
+    first_ready c.args.routes c.args.options storage start _ stored c.in_ok-progress.ensures.here small c.stored_leg-stored.ensures numbered c.in_ok-most.ensures.most refl
+    c.driven-job.ensures.rests c.driven-job.ensures.turns c.driven-job.ensures.routes routable c.requires.modest counted
+    has.shape c.in_ok-most.ensures.shape c.in_ok-most.ensures.usable c.in_ok-most.ensures.open c.in_ok-most.ensures.even c.in_ok-most.ensures.newest c.requires.every in
     is_begun c.args.routes c.args.text.now c.args.options _ _ c.read.ensures.meanwhile storage start has _ _ stored c.stored_leg-stored.ensures c.in_ok-most.ensures.begun
     ready c.in_ok-progress.ensures.here c.in_ok-most.ensures.reached c.driven-job.ensures.routes refl c.in_ok-most.ensures.most refl refl c.in_ok-most.ensures.text

@@ -1,4 +1,4 @@
-use Rattle.std.proofs.Common.{◌≡◌, subst}
+use Rattle.std.proofs.Common.{subst}
 use Rattle.partition_core.specs.Work.{Work}
 use Rattle.partition_core.specs.KeptWork.{IsKeptOf}
 use Rattle.statefun_driver.specs.Work.{here}

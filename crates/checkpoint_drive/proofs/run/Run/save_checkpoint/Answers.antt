@@ -1,4 +1,4 @@
-use Rattle.std.proofs.Common.{◌≡◌, ap}
+use Rattle.std.proofs.Common.{ap}
 use Rattle.std.proofs.lemmas.Result.{err_from_is_err_and}
 use Rattle.checkpoint_drive.specs.declared.run.Run.{Run}
 use Rattle.checkpoint_drive.proofs.Saved.{save_failed, save_stands}
